@@ -1,0 +1,5 @@
+pub mod Every
+pub mod Series
+pub mod Sums
+pub mod Rule
+pub mod Laws

@@ -1,0 +1,28 @@
+// The decay table of document 01: what is left of 10^9 parts after one period, for each rate, by year and by month.
+// The ledger looks up the entries of a run once, before its first record.
+mod table;
+
+ghost use mathlib.Core.Path.{_≡_};
+ghost use lib.ListN.{getD};
+ghost use Rattle.numbers.specs.Eight.{eight};
+ghost use Rattle.decay.specs.Series.{entryOf};
+
+// Answers the entry of a rate in thousandths, kind 1 by year and 2 by month, and 0 for any other rate or kind.
+pub fn entry(kind: u8, rate: u16) -> u32
+    ensures { λ r. ⌜ r ≡ entryOf kind rate ⌝ }
+{
+    let table = table::table_of(kind);
+    table::at_rate(&table, rate)
+}
+
+// Answers the entries of eight rates at once.
+pub fn entries(kind: u8, rates: [u16; 8]) -> [u32; 8]
+    ensures { λ r. ⌜ r ≡ eight (λ t. entryOf kind (getD rates t 0)) ⌝ }
+{
+    let table = table::table_of(kind);
+    let mut found = [0u32; 8];
+    for t in 0..8 {
+        found[t] = table::at_rate(&table, rates[t]);
+    }
+    found
+}

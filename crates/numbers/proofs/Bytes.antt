@@ -1,0 +1,55 @@
+-- Laws of numbers as bytes, over the count of bytes: wide reads and writes are two narrow ones, and what was written is read back.
+use mathlib.Core.Path.{_≡_, refl, sym, ap, _∙_}
+use mathlib.Core.List.{List, [], _∷_, _++_}
+use Prim.Native.Nat.{ℕ, zero, suc, _+_, _*_, _/_, _%_, _^_, _≤_, _<_}
+use native.Mathlib.Nat.{zero-add, add-zero, suc-add, pow-zero, pow-suc, pow-succ', div-div-eq-div-mul, div-one}
+use native.Mathlib.Numerals.{add-one}
+use native.Mathlib.Omega.{arith}
+use lib.ListN.{length, getD, set, length-set}
+use lib.Seq.{sets, getD-set-same, getD-set-other}
+use Rattle.numbers.specs.Bytes.{numberAt, bytesOf}
+
+pub number-join : (j k : ℕ) (s : List ℕ) (at : ℕ) → numberAt (j + k) s at ≡ numberAt j s at + 256 ^ j * numberAt k s (at + j)
+number-join zero k s at = rw (zero-add k, add-zero at, pow-zero) (omega arith)
+number-join (suc j) k s at =
+    let e : at + suc j ≡ at + 1 + j = omega arith
+    in rw (suc-add, e, pow-suc) (omega (arith, number-join j k s (at + 1)))
+
+pub bytes-length : (k x : ℕ) → length (bytesOf k x) ≡ k
+bytes-length zero x = refl
+bytes-length (suc k) x = ap suc (bytes-length k (x / 256))
+
+pub bytes-join : (j k x : ℕ) → bytesOf (j + k) x ≡ bytesOf j x ++ bytesOf k (x / 256 ^ j)
+bytes-join zero k x = rw (zero-add, pow-zero, div-one)
+bytes-join (suc j) k x = rw (suc-add, pow-succ', ← div-div-eq-div-mul x 256 (256 ^ j), bytes-join j k (x / 256))
+
+pub sets-join : (xs ys l : List ℕ) (at : ℕ) → sets (sets l at xs) (at + length xs) ys ≡ sets l at (xs ++ ys)
+sets-join [] ys l at = rw add-zero
+sets-join (x ∷ xs) ys l at =
+    let e : at + suc (length xs) ≡ suc at + length xs = omega arith
+    in rw e (sets-join xs ys (set l at x) (suc at))
+
+-- bytes stored further on leave a byte as it is
+kept : (xs l : List ℕ) (at i : ℕ) → i < at → getD (sets l at xs) i 0 ≡ getD l i 0
+kept [] l at i h = refl
+kept (x ∷ xs) l at i h =
+    let ne : i ≡ at → ⊥ = λ e. omega arith
+    in kept xs (set l at x) (suc at) i (omega arith) ∙ getD-set-other l at i x 0 ne
+
+pub read-written : (k x : ℕ) (l : List ℕ) (at : ℕ) → at + k ≤ length l → x < 256 ^ k → numberAt k (sets l at (bytesOf k x)) at ≡ x
+read-written zero x l at h b = let z : x < 1 = rw pow-zero at b in omega arith
+read-written (suc k) x l at h b =
+    let bs = bytesOf k (x / 256) in
+    let small : x < 256 ^ k * 256 = rw pow-suc at b in
+    let first : getD (sets (set l at (x % 256)) (suc at) bs) at 0 ≡ x % 256
+    = kept bs (set l at (x % 256)) (suc at) at (omega arith) ∙ getD-set-same l at (x % 256) 0 (omega arith) in
+    let room : suc at + k ≤ length (set l at (x % 256)) = rw length-set (omega arith) in
+    let rest : numberAt k (sets (set l at (x % 256)) (suc at) bs) (at + 1) ≡ x / 256
+    = rw add-one (read-written k (x / 256) (set l at (x % 256)) (suc at) room (omega arith)) in
+    omega arith
+
+-- Two writes of k bytes, one after the other, are one of twice as many.
+pub write-twice : (k x at : ℕ) (l : List ℕ) {m r : List ℕ} → m ≡ sets l at (bytesOf k x) → r ≡ sets m (at + k) (bytesOf k (x / 256 ^ k)) → r ≡ sets l at (bytesOf (k + k) x)
+write-twice k x at l p q =
+    q
+    ∙ rw (p, bytes-join k k x, ← sets-join (bytesOf k x) (bytesOf k (x / 256 ^ k)) l at, bytes-length k x)

@@ -1,0 +1,62 @@
+-- Laws of the eight numbers and of sums and tests over places: one more place, and each place.
+use mathlib.Core.Path.{_≡_, refl, sym, ap, _∙_}
+use mathlib.Core.Bool.{Bool, true, false, _&&_, and-false}
+use mathlib.Core.List.{List, [], _∷_}
+use mathlib.Core.Logic.{⊎-elim}
+use Prim.Native.Nat.{ℕ, zero, suc, _+_, _≤_, _<_}
+use native.Mathlib.Nat.{add-zero, add-suc, suc-add, zero-add, eq-or-lt-of-le, le-of-suc-le-suc}
+use native.Mathlib.Numerals.{add-one}
+use native.Mathlib.Omega.{arith}
+use lib.ListN.{getD, set, replicate}
+use Rattle.numbers.specs.Eight.{eight, sumOf, everyOf}
+
+-- what a loop over the eight places has filled in before place t
+abbrev pub filled : (ℕ → ℕ) → ℕ → List ℕ
+filled f zero = replicate 8 0
+filled f (suc t) = set (filled f t) t (f t)
+
+module _ (f : ℕ → ℕ) (t : ℕ) where
+  pub filled-more : {xs : List ℕ} {x : ℕ} → xs ≡ filled f t → x ≡ f t → set xs t x ≡ filled f (t + 1)
+  filled-more p q = rw (add-one, p, q)
+
+  pub sum-more : {n x : ℕ} → n ≡ sumOf f t → x ≡ f t → n + x ≡ sumOf f (t + 1)
+  sum-more p q = rw (add-one, p, q)
+
+-- f s, f (s + 1), .., k of them
+abbrev run : (ℕ → ℕ) → ℕ → ℕ → List ℕ
+run f s zero = []
+run f s (suc k) = f s ∷ run f (suc s) k
+
+run-at : (f : ℕ → ℕ) (s k i : ℕ) → i < k → getD (run f s k) i 0 ≡ f (s + i)
+run-at f s zero i h = absurd (omega arith)
+run-at f s (suc k) zero h = rw (add-zero s)
+run-at f s (suc k) (suc i) h = rw (add-suc s i, ← suc-add s i) (run-at f (suc s) k i (omega arith))
+
+pub eight-at : (f : ℕ → ℕ) (t : ℕ) → t < 8 → getD (eight f) t 0 ≡ f t
+eight-at f t h = rw (zero-add t) at (run-at f 0 8 t h)
+
+module _ (test : ℕ → Bool) where
+  pub every-at : (k t : ℕ) → t < k → everyOf test k ≡ true → test t ≡ true
+  every-at zero t l h = absurd (omega arith)
+  every-at (suc k) t l h =
+      let p = both (everyOf test k) (test k) h in
+      ⊎-elim (λ e. rw e (p .1)) (λ lt. every-at k t lt (p .0)) (eq-or-lt-of-le (le-of-suc-le-suc l))
+    where
+      both : (a b : Bool) → (a && b) ≡ true → (a ≡ true) × (b ≡ true)
+      both true b e = (refl, e)
+      both false b e = (e, cc)
+
+  pub every-not : (k t : ℕ) → t < k → test t ≡ false → everyOf test k ≡ false
+  every-not zero t l h = absurd (omega arith)
+  every-not (suc k) t l h =
+      ⊎-elim
+      (λ e. ap (λ (b : Bool). everyOf test k && b) (rw e at h) ∙ and-false (everyOf test k))
+      (λ lt. ap (λ (b : Bool). b && test k) (every-not k t lt h))
+      (eq-or-lt-of-le (le-of-suc-le-suc l))
+
+  pub every-more : (k : ℕ) → everyOf test k ≡ true → test k ≡ true → everyOf test (k + 1) ≡ true
+  every-more k h e = cc (add-one k)
+
+  pub every-each : (k : ℕ) → ((t : ℕ) → t < k → test t ≡ true) → everyOf test k ≡ true
+  every-each zero h = refl
+  every-each (suc k) h = simp (every-each k (λ t l. h t (omega arith)), h k (omega arith))

@@ -1,0 +1,4 @@
+pub mod Bytes
+pub mod Eight
+pub mod Fraction
+pub mod Split

@@ -1,0 +1,16 @@
+-- The bytes of a number are those of its two halves, one after the other.
+use denote.Ref.{now}
+use borrow.Author.Needs.{needs}
+use Rattle.numbers.proofs.Bytes.{write-twice}
+use Rattle.numbers.proofs.le.write_u32.Statement.{statement}
+use Rattle.numbers.proofs.le.write_u32.Tie as tie
+
+returns : tie.Need-returns
+returns c =
+    let s = c .before .before .before .before .before .before .before .before .before .args
+    in write-twice 2 (s .x) (s .at) (now (s .out)) (c .before .before .before .before .before .before .write-u16 .ensures) (c .before .before .write-u162 .ensures)
+
+pub write-u32-spec : {M : Type 1} → statement M
+write-u32-spec =
+    tie.close
+    (tie.spec (λ c κs. search needs) (λ c. search needs) (λ c κs. search needs) (λ c. search needs) returns)

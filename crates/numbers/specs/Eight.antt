@@ -1,0 +1,18 @@
+-- Document 01, 'Waste types and their constants': a number for each of the eight types. Place t, from 0 on, has type t + 1.
+use mathlib.Core.Bool.{Bool, true, _&&_}
+use mathlib.Core.List.{List, [], _∷_}
+use Prim.Native.Nat.{ℕ, zero, suc, _+_}
+
+-- The eight numbers f 0 to f 7.
+abbrev pub eight : (ℕ → ℕ) → List ℕ
+eight f = f 0 ∷ f 1 ∷ f 2 ∷ f 3 ∷ f 4 ∷ f 5 ∷ f 6 ∷ f 7 ∷ []
+
+-- f 0 + f 1 + .. + f (k − 1)
+abbrev pub sumOf : (ℕ → ℕ) → ℕ → ℕ
+sumOf f zero = 0
+sumOf f (suc k) = sumOf f k + f k
+
+-- The test holds of 0, 1, .., k − 1.
+abbrev pub everyOf : (ℕ → Bool) → ℕ → Bool
+everyOf test zero = true
+everyOf test (suc k) = everyOf test k && test k

@@ -1,0 +1,3 @@
+pub mod Fraction
+pub mod Bytes
+pub mod Eight

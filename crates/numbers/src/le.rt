@@ -1,0 +1,63 @@
+// Numbers as bytes, little-endian.
+ghost use mathlib.Core.Path.{_≡_};
+ghost use Prim.Native.Nat.{_+_, _^_, _≤_, _<_};
+ghost use lib.ListN.{length};
+ghost use lib.Seq.{sets};
+ghost use Rattle.numbers.specs.Bytes.{numberAt, bytesOf};
+
+fn wide(byte: u8) -> u64
+    ensures { λ r. ⌜ (r ≡ byte) × (r < 256) ⌝ }
+{
+    byte as u64
+}
+
+// Answers the number of 2 bytes at a place.
+pub fn read_u16(bytes: &[u8], at: usize) -> u64
+    requires { ⌜ at + 2 ≤ length (now bytes) ⌝ }
+    ensures { λ r. ⌜ (r ≡ numberAt 2 (now (bytes .entry)) at) × (r < 2 ^ 16) ⌝ }
+{
+    wide(bytes[at]) + 256 * wide(bytes[at + 1])
+}
+
+// Answers the number of 4 bytes at a place.
+pub fn read_u32(bytes: &[u8], at: usize) -> u64
+    requires { ⌜ at + 4 ≤ length (now bytes) ⌝ }
+    ensures { λ r. ⌜ (r ≡ numberAt 4 (now (bytes .entry)) at) × (r < 2 ^ 32) ⌝ }
+{
+    read_u16(bytes, at) + 65536 * read_u16(bytes, at + 2)
+}
+
+// Answers the number of 8 bytes at a place.
+pub fn read_u64(bytes: &[u8], at: usize) -> u64
+    requires { ⌜ at + 8 ≤ length (now bytes) ⌝ }
+    ensures { λ r. ⌜ r ≡ numberAt 8 (now (bytes .entry)) at ⌝ }
+{
+    read_u32(bytes, at) + 4294967296 * read_u32(bytes, at + 4)
+}
+
+// Writes the low 2 bytes of a number at a place.
+pub fn write_u16(out: &mut [u8], at: usize, x: u64)
+    requires { ⌜ at + 2 ≤ length (now out) ⌝ }
+    ensures { λ _. ⌜ now (out .exit) ≡ sets (now (out .entry)) at (bytesOf 2 x) ⌝ }
+{
+    out[at] = (x % 256) as u8;
+    out[at + 1] = (x / 256 % 256) as u8;
+}
+
+// Writes the low 4 bytes of a number at a place.
+pub fn write_u32(out: &mut [u8], at: usize, x: u64)
+    requires { ⌜ at + 4 ≤ length (now out) ⌝ }
+    ensures { λ _. ⌜ now (out .exit) ≡ sets (now (out .entry)) at (bytesOf 4 x) ⌝ }
+{
+    write_u16(out, at, x);
+    write_u16(out, at + 2, x / 65536);
+}
+
+// Writes the 8 bytes of a number at a place.
+pub fn write_u64(out: &mut [u8], at: usize, x: u64)
+    requires { ⌜ at + 8 ≤ length (now out) ⌝ }
+    ensures { λ _. ⌜ now (out .exit) ≡ sets (now (out .entry)) at (bytesOf 8 x) ⌝ }
+{
+    write_u32(out, at, x);
+    write_u32(out, at + 4, x / 4294967296);
+}

@@ -1,0 +1,100 @@
+// The eight waste types by their fixed numbers, and the site classes: 'Waste types and their constants' of document 01.
+// The ledger looks its constants up here. A number that names no type, climate or class has 0.
+ghost use mathlib.Core.List.{_∷_};
+ghost use mathlib.Core.Path.{_≡_};
+ghost use Prim.Native.Nat.{_+_};
+ghost use Rattle.numbers.specs.Eight.{eight};
+ghost use Rattle.waste.specs.Waste.{carbonOf, groupOf, rateOf, correctionOf};
+
+// By number, place 0 being no type: the order is never that of a translated list.
+const CARBON: [u16; 9] = [0, 4300, 4000, 1500, 2400, 2000, 0, 500, 900];
+
+const CORRECTION: [u8; 5] = [0, 100, 50, 80, 40];
+
+// Rates by climate code, place 0 being no climate.
+const GROUP_A: [u16; 5] = [0, 40, 60, 45, 70];
+
+const GROUP_B: [u16; 5] = [0, 20, 30, 25, 35];
+
+const GROUP_C: [u16; 5] = [0, 50, 100, 65, 170];
+
+const GROUP_D: [u16; 5] = [0, 60, 185, 85, 400];
+
+const ALIKE: [u16; 5] = [0, 30, 30, 30, 30];
+
+const NONE: [u16; 5] = [0, 0, 0, 0, 0];
+
+// Answers the carbon content (DOC) of a type, in hundredths of a percent of wet weight.
+pub fn carbon(waste: u8) -> u16
+    ensures { λ r. ⌜ r ≡ carbonOf waste ⌝ }
+{
+    if waste > 8 {
+        return 0;
+    }
+    CARBON[waste as usize]
+}
+
+// Answers the rates of a type, by climate code.
+fn group(waste: u8) -> [u16; 5]
+    ensures { λ r. ⌜ r ≡ 0 ∷ groupOf waste ⌝ }
+{
+    if waste == 1 {
+        return GROUP_B;
+    }
+    if waste == 2 {
+        return GROUP_A;
+    }
+    if waste == 3 {
+        return GROUP_D;
+    }
+    if waste == 4 {
+        return GROUP_A;
+    }
+    if waste == 5 {
+        return GROUP_C;
+    }
+    if waste == 7 {
+        return GROUP_D;
+    }
+    if waste == 8 {
+        return ALIKE;
+    }
+    NONE
+}
+
+// Answers the yearly rate of a type in a climate, in thousandths.
+pub fn rate(waste: u8, climate: u8) -> u16
+    ensures { λ r. ⌜ r ≡ rateOf waste climate ⌝ }
+{
+    let rates = group(waste);
+    if climate > 4 {
+        return 0;
+    }
+    rates[climate as usize]
+}
+
+// Answers the yearly rates of types 1 to 8 in a climate.
+pub fn rates(climate: u8) -> [u16; 8]
+    ensures { λ r. ⌜ r ≡ eight (λ t. rateOf (t + 1) climate) ⌝ }
+{
+    [
+        rate(1, climate),
+        rate(2, climate),
+        rate(3, climate),
+        rate(4, climate),
+        rate(5, climate),
+        rate(6, climate),
+        rate(7, climate),
+        rate(8, climate),
+    ]
+}
+
+// Answers the methane correction factor of a site class, in percent.
+pub fn correction(class: u8) -> u8
+    ensures { λ r. ⌜ r ≡ correctionOf class ⌝ }
+{
+    if class > 4 {
+        return 0;
+    }
+    CORRECTION[class as usize]
+}
