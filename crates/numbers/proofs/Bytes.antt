@@ -5,8 +5,8 @@ use Prim.Native.Nat.{ℕ, zero, suc, _+_, _*_, _/_, _%_, _^_, _≤_, _<_}
 use native.Mathlib.Nat.{zero-add, add-zero, suc-add, pow-zero, pow-suc, pow-succ', div-div-eq-div-mul, div-one}
 use native.Mathlib.Numerals.{add-one}
 use native.Mathlib.Omega.{arith}
-use lib.ListN.{length, getD, set, length-set}
-use lib.Seq.{sets, getD-set-same, getD-set-other}
+use lib.ListN.{length, drop, getD, set, length-set}
+use lib.Seq.{sets, sets-eq, getD-set-same, getD-set-other}
 use Rattle.numbers.specs.Bytes.{numberAt, bytesOf}
 
 pub number-join : (j k : ℕ) (s : List ℕ) (at : ℕ) → numberAt (j + k) s at ≡ numberAt j s at + 256 ^ j * numberAt k s (at + j)
@@ -53,3 +53,10 @@ pub write-twice : (k x at : ℕ) (l : List ℕ) {m r : List ℕ} → m ≡ sets 
 write-twice k x at l p q =
     q
     ∙ rw (p, bytes-join k k x, ← sets-join (bytesOf k x) (bytesOf k (x / 256 ^ k)) l at, bytes-length k x)
+
+-- Two runs of bytes written from the start on, one after the other: they stand there, and what is past them stays.
+pub front-written : (A B out : List ℕ) {m r : List ℕ} → m ≡ sets out 0 A → r ≡ sets m (length A) B → length (A ++ B) ≤ length out
+    → r ≡ A ++ B ++ drop (length (A ++ B)) out
+front-written A B out p q h =
+    let from : 0 + length A ≡ length A = zero-add (length A) in
+    q ∙ rw p (rw (← from) (sets-join A B out 0) ∙ sets-eq (A ++ B) out 0 (rw (zero-add (length (A ++ B))) h) ∙ rw (zero-add (length (A ++ B))))

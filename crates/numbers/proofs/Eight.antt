@@ -1,4 +1,4 @@
--- Laws of the eight numbers and of sums and tests over places: one more place, and each place.
+-- Laws of the eight numbers, and of sums and tests over places: one more place, and each place.
 use mathlib.Core.Path.{_≡_, refl, sym, ap, _∙_}
 use mathlib.Core.Bool.{Bool, true, false, _&&_, and-false}
 use mathlib.Core.List.{List, [], _∷_}
@@ -8,7 +8,7 @@ use native.Mathlib.Nat.{add-zero, add-suc, suc-add, zero-add, eq-or-lt-of-le, le
 use native.Mathlib.Numerals.{add-one}
 use native.Mathlib.Omega.{arith}
 use lib.ListN.{getD, set, replicate}
-use Rattle.numbers.specs.Eight.{eight, sumOf, everyOf}
+use Rattle.numbers.specs.Eight.{eight, sumOf, everyOf, allOf}
 
 -- what a loop over the eight places has filled in before place t
 abbrev pub filled : (ℕ → ℕ) → ℕ → List ℕ
@@ -35,16 +35,25 @@ run-at f s (suc k) (suc i) h = rw (add-suc s i, ← suc-add s i) (run-at f (suc 
 pub eight-at : (f : ℕ → ℕ) (t : ℕ) → t < 8 → getD (eight f) t 0 ≡ f t
 eight-at f t h = rw (zero-add t) at (run-at f 0 8 t h)
 
+pub both-true : (a b : Bool) → (a && b) ≡ true → (a ≡ true) × (b ≡ true)
+both-true true b e = (refl, e)
+both-true false b e = (e, cc)
+
+-- Where all of some tests hold, each does.
+abbrev pub AllTrue : List Bool → Type 0
+AllTrue [] = Unit
+AllTrue (test ∷ rest) = (test ≡ true) × AllTrue rest
+
+pub all-true : (tests : List Bool) → allOf tests ≡ true → AllTrue tests
+all-true [] e = tt
+all-true (test ∷ rest) e = let p = both-true test (allOf rest) e in (p .0, all-true rest (p .1))
+
 module _ (test : ℕ → Bool) where
   pub every-at : (k t : ℕ) → t < k → everyOf test k ≡ true → test t ≡ true
   every-at zero t l h = absurd (omega arith)
   every-at (suc k) t l h =
-      let p = both (everyOf test k) (test k) h in
+      let p = both-true (everyOf test k) (test k) h in
       ⊎-elim (λ e. rw e (p .1)) (λ lt. every-at k t lt (p .0)) (eq-or-lt-of-le (le-of-suc-le-suc l))
-    where
-      both : (a b : Bool) → (a && b) ≡ true → (a ≡ true) × (b ≡ true)
-      both true b e = (refl, e)
-      both false b e = (e, cc)
 
   pub every-not : (k t : ℕ) → t < k → test t ≡ false → everyOf test k ≡ false
   every-not zero t l h = absurd (omega arith)
@@ -60,3 +69,7 @@ module _ (test : ℕ → Bool) where
   pub every-each : (k : ℕ) → ((t : ℕ) → t < k → test t ≡ true) → everyOf test k ≡ true
   every-each zero h = refl
   every-each (suc k) h = simp (every-each k (λ t l. h t (omega arith)), h k (omega arith))
+
+pub every-same : (f g : ℕ → Bool) (k : ℕ) → ((t : ℕ) → t < k → f t ≡ g t) → everyOf f k ≡ everyOf g k
+every-same f g zero h = refl
+every-same f g (suc k) h = simp (every-same f g k (λ t l. h t (omega arith)), h k (omega arith))

@@ -16,3 +16,8 @@ sumOf f (suc k) = sumOf f k + f k
 abbrev pub everyOf : (ℕ → Bool) → ℕ → Bool
 everyOf test zero = true
 everyOf test (suc k) = everyOf test k && test k
+
+-- All of some tests hold.
+abbrev pub allOf : List Bool → Bool
+allOf [] = true
+allOf (test ∷ rest) = test && allOf rest

@@ -1,0 +1,5 @@
+pub mod Shares
+pub mod Ranged
+pub mod Sound
+pub mod Accepted
+pub mod Settle

@@ -1,0 +1,28 @@
+-- With at most 1200 records one test over the types serves both cases.
+use mathlib.Core.Path.{sym, _∙_}
+use native.Mathlib.Omega.{arith}
+use borrow.Author.Needs.{needs}
+use borrow.Author.Tests.{lt-leb}
+use Rattle.ledger.specs.Refusal.{sound}
+use Rattle.ledger.proofs.Sound.{sound-tests}
+use Rattle.ledger.proofs.book.Ledger.is_sound.Statement.{statement}
+use Rattle.ledger.proofs.book.Ledger.is_sound.Tie as tie
+
+returns : tie.Need-returns
+unfolding sound
+returns c = simp (lt-leb _ _ (c .if1 .taken))
+
+returns-2 : tie.Need-returns-2
+returns-2 c =
+    let l = c .before .before .before .before .before .args .self in
+    c .both .ensures ∙ rw (c .before .all-within .ensures, c .before .before .is-coded .ensures) (sym (sound-tests l (omega arith)))
+
+pub is-sound-spec : {M : Type 1} → statement M
+is-sound-spec =
+    tie.close
+    (tie.spec
+    returns
+    (λ c κs. search needs)
+    (λ c κs. search needs)
+    (λ c κs. search needs)
+    returns-2)

@@ -1,0 +1,40 @@
+-- The four percentages are together a share of at most all.
+use mathlib.Core.Path.{_≡_, _∙_, ap}
+use Prim.Native.Nat.{ℕ, _-_, _*_, _/_, _^_, _≤_}
+use native.Mathlib.Omega.{arith}
+use borrow.Author.Needs.{needs}
+use lib.Dec.{lit<}
+use Rattle.numbers.proofs.Split.{share-most, share-fits}
+use Rattle.ledger.proofs.Shares.{two-shares, three-shares, four-shares}
+use Rattle.ledger.proofs.figure.methane.Statement.{statement}
+use Rattle.ledger.proofs.figure.methane.Tie as tie
+
+regroup : (x o s d k : ℕ) → x * (o * s * d * k) ≡ x * o * s * d * k
+regroup x o s d k = omega arith
+
+mul-div-requires : tie.Need-mul-div-requires
+mul-div-requires c κs =
+    let a = c .args in
+    share-fits (a .x1) ((100 - a .oxidation) * a .share * a .docf * a .correction) (10 ^ 8) (search needs) (search needs)
+    (four-shares (a .oxidation) (a .share) (a .docf) (a .correction) (search needs) (search needs) (search needs)) (lit< tt)
+
+returns : tie.Need-returns
+returns c =
+    let a = c .before .args in
+    let o = 100 - a .oxidation in (
+      c .mul-div .ensures ∙ ap (λ (m : ℕ). m / 10 ^ 8) (regroup (a .x1) o (a .share) (a .docf) (a .correction)),
+      rw (c .mul-div .ensures)
+          (share-most (a .x1) (o * a .share * a .docf * a .correction) (10 ^ 8)
+          (four-shares (a .oxidation) (a .share) (a .docf) (a .correction) (search needs) (search needs) (search needs))),
+    )
+
+pub methane-spec : {M : Type 1} → statement M
+methane-spec =
+    tie.close
+    (tie.spec
+    (λ c. search needs)
+    (λ c. let a = c .args in omega (arith, two-shares (a .oxidation) (a .share) (a .docf) (a .correction) (search needs)))
+    (λ c. let a = c .args in omega (arith, three-shares (a .oxidation) (a .share) (a .docf) (a .correction) (search needs) (search needs)))
+    (λ c. let a = c .args in omega (arith, four-shares (a .oxidation) (a .share) (a .docf) (a .correction) (search needs) (search needs) (search needs)))
+    mul-div-requires
+    returns)

@@ -1,0 +1,6 @@
+pub mod Fields
+pub mod Stock
+pub mod Figure
+pub mod Output
+pub mod Refusal
+pub mod Take

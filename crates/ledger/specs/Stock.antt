@@ -1,0 +1,63 @@
+-- Document 01, 'One step': one type in one period, once over the kind. Place t has type t + 1; all carbon is in whole milligrams.
+use mathlib.Core.List.{List}
+use Prim.Native.Nat.{ℕ, _+_, _-_, _*_, _/_, _^_}
+use lib.ListN.{getD}
+use Rattle.numbers.specs.Eight.{eight}
+use Rattle.decay.specs.Series.{entryOf}
+use Rattle.waste.specs.Waste.{carbonOf, rateOf}
+use Rattle.ledger.specs.Fields.{kindOf, climateOf, massOf}
+use Rattle.ledger.specs.declared.book.Ledger.{Ledger}
+
+-- A fresh ledger is all zero.
+unfoldable pub fresh : Ledger
+fresh = record { n = 0; kind = 0; climate = 0; brought = eight (λ t. 0); stock = eight (λ t. 0) }
+
+-- T, the carbon brought in, and R, the carbon left.
+abbrev pub broughtAt : Ledger → ℕ → ℕ
+broughtAt l t = getD (l .brought) t 0
+
+abbrev pub stockAt : Ledger → ℕ → ℕ
+stockAt l t = getD (l .stock) t 0
+
+-- D, the table entry for the type's rate in a kind and climate.
+unfoldable pub entryAt : (kind climate t : ℕ) → ℕ
+entryAt kind climate t = entryOf kind (rateOf (t + 1) climate)
+
+-- deposit = mass × DOC × 100 mg
+unfoldable pub depositOf : (mass t : ℕ) → ℕ
+depositOf mass t = mass * carbonOf (t + 1) * 100
+
+-- R becomes H × D / 10^9 rounded down.
+unfoldable pub leftOf : (H D : ℕ) → ℕ
+leftOf H D = H * D / 10 ^ 9
+
+-- The ledger l and an accepted record:
+module _ (l : Ledger) (bytes : List ℕ) (t : ℕ) where
+  unfoldable pub deposit : ℕ
+  deposit = depositOf (massOf bytes t) t
+
+  -- the deposit is added to T;
+  unfoldable pub newBrought : ℕ
+  newBrought = broughtAt l t + deposit
+
+  -- H = R + deposit: new waste decays in its own period;
+  unfoldable pub held : ℕ
+  held = stockAt l t + deposit
+
+  unfoldable pub newStock : ℕ
+  newStock = leftOf held (entryAt (kindOf bytes) (climateOf bytes) t)
+
+  -- release G = H − the new R.
+  unfoldable pub release : ℕ
+  release = held - newStock
+
+-- n grows by one, kind and climate become the record's.
+unfoldable pub after : Ledger → List ℕ → Ledger
+after l bytes =
+    record {
+      n = l .n + 1;
+      kind = kindOf bytes;
+      climate = climateOf bytes;
+      brought = eight (newBrought l bytes);
+      stock = eight (newStock l bytes);
+    }
