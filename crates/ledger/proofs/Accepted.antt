@@ -84,6 +84,10 @@ module _ (l : Ledger) (bytes : List ℕ) where
         masses = λ t h. leb-true (massOf bytes t) (10 ^ 9) (every-at (light bytes) 8 t h (not-false (everyOf (light bytes) 8) (p .1 .1 .1 .1 .1 .1 .1 .1 .0)));
       }
 
+pub was-sound : (l : Ledger) (bytes : List ℕ) (room : ℕ) → refusalOf l bytes room ≡ 0 → sound l ≡ true
+unfolding refusalOf faultsOf
+was-sound l bytes room e = not-false (sound l) (no-fault 0 (faultsOf (sound l) l bytes room) e .1 .1 .0)
+
 pub has-room : (l : Ledger) (bytes : List ℕ) (room : ℕ) → refusalOf l bytes room ≡ 0 → 48 ≤ room
 unfolding refusalOf faultsOf
 has-room l bytes room e = ltb-false room 48 (no-fault 0 (faultsOf (sound l) l bytes room) e .1 .0)

@@ -3,3 +3,4 @@ pub mod Ranged
 pub mod Sound
 pub mod Accepted
 pub mod Settle
+pub mod Take
