@@ -111,6 +111,10 @@ module _ (l : Ledger) (bytes : List ℕ) (a : Accepted l bytes) (t : ℕ) (h : t
   unfolding newBrought deposit depositOf ceilingOf
   new-exact = omega (arith, mul-le-mul-right (carbonOf (t + 1) * 100) (a .masses t h), a .ledger .at t h .exact)
 
+  pub release-most : release l bytes t ≤ newBrought l bytes t
+  unfolding release held newBrought
+  release-most = omega (arith, a .ledger .at t h .kept)
+
 -- A sound ledger that takes a record is sound again.
 pub stays-sound : (l : Ledger) (bytes : List ℕ) → Accepted l bytes → sound (after l bytes) ≡ true
 unfolding after
@@ -140,3 +144,10 @@ module _ (l : Ledger) (bytes : List ℕ) (room : ℕ) where
 pub accepted-sound : (l : Ledger) (bytes : List ℕ) → Accepted l bytes → sound (acceptedOf l bytes .ledger) ≡ true
 unfolding acceptedOf
 accepted-sound l bytes a = stays-sound l bytes a
+
+-- So T and G of every type are small after an accepted record.
+pub new-small : (l : Ledger) (bytes : List ℕ) → Accepted l bytes → (t : ℕ) → t < 8 → (newBrought l bytes t ≤ 516 * 10 ^ 15) × (release l bytes t ≤ 516 * 10 ^ 15)
+unfolding after
+new-small l bytes a t h =
+    let T : newBrought l bytes t ≤ 516 * 10 ^ 15 = rw (eight-at (newBrought l bytes) t h) at (sound-is (after l bytes) (stays-sound l bytes a) .at t h .small) in
+    (T, omega (arith, release-most l bytes a t h))

@@ -7,6 +7,7 @@ use Rattle.decay.specs.Series.{entryOf}
 use Rattle.waste.specs.Waste.{carbonOf, rateOf}
 use Rattle.ledger.specs.Fields.{kindOf, climateOf, massOf}
 use Rattle.ledger.specs.declared.book.Ledger.{Ledger}
+use Rattle.ledger.specs.declared.stock.Decayed.{Decayed}
 
 -- A fresh ledger is all zero.
 unfoldable pub fresh : Ledger
@@ -50,6 +51,10 @@ module _ (l : Ledger) (bytes : List ℕ) (t : ℕ) where
   -- release G = H − the new R.
   unfoldable pub release : ℕ
   release = held - newStock
+
+-- What place t then has.
+unfoldable pub decayedAt : Ledger → List ℕ → (t : ℕ) → Decayed
+decayedAt l bytes t = record { brought = newBrought l bytes t; stock = newStock l bytes t; release = release l bytes t }
 
 -- n grows by one, kind and climate become the record's.
 unfoldable pub after : Ledger → List ℕ → Ledger

@@ -1,14 +1,13 @@
 // The ledger, from value to value.
 ghost use mathlib.Core.Bool.{cond, true, _&&_};
 ghost use mathlib.Core.Path.{_≡_};
-ghost use Prim.Native.Nat.{_+_, _-_, _*_, _^_, _≤_, _<_};
+ghost use Prim.Native.Nat.{_≤_, _<_};
 ghost use lib.Dec.{eqb};
 ghost use lib.ListN.{length, take};
 ghost use Rattle.numbers.specs.Eight.{eight, everyOf};
 ghost use Rattle.decay.specs.Series.{isKind};
 ghost use Rattle.ledger.specs.Fields.{kindOf, climateOf};
-ghost use Rattle.ledger.specs.Stock.{fresh, broughtAt, stockAt, entryAt, depositOf, leftOf, release, after};
-ghost use Rattle.ledger.specs.Figure.{x0Of};
+ghost use Rattle.ledger.specs.Stock.{fresh, entryAt, decayedAt};
 ghost use Rattle.ledger.specs.Refusal.{between, withinAt, sound, faultsOf, firstFrom, refusalOf};
 ghost use Rattle.ledger.specs.Take.{acceptedOf, takeOf, writtenOf, totalsOf};
 use crate::answer::Answer;
@@ -17,8 +16,8 @@ use crate::figure;
 use crate::output;
 use crate::refusal;
 use crate::stock;
+use crate::stock::AllDecayed;
 use crate::stock::Decayed;
-use crate::stock::Settled;
 
 // One site's ledger: the number n of accepted records, their kind and climate, and for each type the carbon brought in (T)
 // and the carbon left (R), in whole milligrams. Place 0 of a list is type 1.
@@ -114,18 +113,15 @@ impl Ledger {
         refusal::fault(room < Ledger::BYTES, 2, third)
     }
 
-    // Answers what one type has after a record that brings a mass in kg, at the type's table entry.
-    fn decayed(self, t: usize, mass: u64, entry: u32) -> Decayed
-        requires { ⌜ (t < 8) × (mass ≤ 10 ^ 9) × (entry < 10 ^ 9) ⌝ }
-        requires { ⌜ (stockAt self t ≤ broughtAt self t) × (broughtAt self t ≤ 516 * 10 ^ 15) ⌝ }
-        ensures { λ r. ⌜ (r .brought ≡ broughtAt self t + depositOf mass t)
-            × (r .stock ≡ leftOf (stockAt self t + depositOf mass t) entry)
-            × (r .release ≡ stockAt self t + depositOf mass t - r .stock)
-            × (r .release ≤ 6 * 10 ^ 17) ⌝ }
+    // Decays one type: answers what place t has after an accepted record, given the table entries of its kind and climate.
+    fn decay(self, entries: [u32; 8], record: &[u8], t: usize) -> Decayed
+        requires { ⌜ (refusalOf self (now «record») 48 ≡ 0) × (t < 8) ⌝ }
+        requires { ⌜ entries ≡ eight (entryAt (kindOf (now «record»)) (climateOf (now «record»))) ⌝ }
+        ensures { λ r. ⌜ r ≡ decayedAt self (now («record» .entry)) t ⌝ }
     {
-        let deposit = stock::deposit(mass, t);
+        let deposit = stock::deposit(numbers::read_u32(record, 16 + 4 * t), t);
         let held = self.stock[t] + deposit;
-        let left = stock::left(held, entry);
+        let left = stock::left(held, entries[t]);
         Decayed {
             brought: self.brought[t] + deposit,
             stock: left,
@@ -133,37 +129,28 @@ impl Ledger {
         }
     }
 
-    // Decays every type, and answers the ledger after an accepted record with the releases and their sum.
-    fn settle(self, entries: [u32; 8], record: &[u8]) -> Settled
+    // Decays every type, one by one, so that no copy of the ledger is made for a place that is only known at run time.
+    fn decay_all(self, entries: [u32; 8], record: &[u8]) -> AllDecayed
         requires { ⌜ refusalOf self (now «record») 48 ≡ 0 ⌝ }
         requires { ⌜ entries ≡ eight (entryAt (kindOf (now «record»)) (climateOf (now «record»))) ⌝ }
-        ensures { λ r. ⌜ (r .ledger ≡ after self (now («record» .entry)))
-            × (r .releases ≡ eight (release self (now («record» .entry))))
-            × (r .x0 ≡ x0Of self (now («record» .entry))) ⌝ }
+        ensures { λ r. ⌜ (r .one ≡ decayedAt self (now («record» .entry)) 0)
+            × (r .two ≡ decayedAt self (now («record» .entry)) 1)
+            × (r .three ≡ decayedAt self (now («record» .entry)) 2)
+            × (r .four ≡ decayedAt self (now («record» .entry)) 3)
+            × (r .five ≡ decayedAt self (now («record» .entry)) 4)
+            × (r .six ≡ decayedAt self (now («record» .entry)) 5)
+            × (r .seven ≡ decayedAt self (now («record» .entry)) 6)
+            × (r .eight ≡ decayedAt self (now («record» .entry)) 7) ⌝ }
     {
-        let mut brought = [0u64; 8];
-        let mut stock = [0u64; 8];
-        let mut releases = [0u64; 8];
-        let mut x0 = 0u64;
-        for t in 0..8 {
-            let mass = numbers::read_u32(record, 16 + 4 * t);
-            let next = self.decayed(t, mass, entries[t]);
-            brought[t] = next.brought;
-            stock[t] = next.stock;
-            releases[t] = next.release;
-            x0 += next.release;
-        }
-        let ledger = Ledger {
-            n: self.n + 1,
-            kind: record[2],
-            climate: record[3],
-            brought: brought,
-            stock: stock,
-        };
-        Settled {
-            ledger,
-            releases,
-            x0,
+        AllDecayed {
+            one: self.decay(entries, record, 0),
+            two: self.decay(entries, record, 1),
+            three: self.decay(entries, record, 2),
+            four: self.decay(entries, record, 3),
+            five: self.decay(entries, record, 4),
+            six: self.decay(entries, record, 5),
+            seven: self.decay(entries, record, 6),
+            eight: self.decay(entries, record, 7),
         }
     }
 
@@ -173,17 +160,24 @@ impl Ledger {
         requires { ⌜ entries ≡ eight (entryAt (kindOf (now «record»)) (climateOf (now «record»))) ⌝ }
         ensures { λ r. ⌜ r ≡ acceptedOf self (now («record» .entry)) ⌝ }
     {
-        let settled = self.settle(entries, record);
-        let ledger = settled.ledger;
-        let brought = ledger.brought;
-        let margins = figure::margins(ledger.n as u64, brought);
-        let releases = settled.releases;
+        let all = self.decay_all(entries, record);
+        let brought = all.brought();
+        let releases = all.releases();
+        let x0 = output::total(releases);
+        let margins = figure::margins(self.n as u64 + 1, brought);
+        let ledger = Ledger {
+            n: self.n + 1,
+            kind: record[2],
+            climate: record[3],
+            brought: brought,
+            stock: all.stock(),
+        };
         Answer {
             ledger,
             refusal: 0,
             releases,
-            x0: settled.x0,
-            figure: figure::figure(record, settled.x0),
+            x0,
+            figure: figure::figure(record, x0),
             bound: figure::bound(record, margins),
         }
     }

@@ -1,9 +1,9 @@
 // One type in one period.
+ghost use mathlib.Core.List.{[], _∷_};
 ghost use mathlib.Core.Path.{_≡_};
 ghost use Prim.Native.Nat.{_*_, _^_, _≤_, _<_};
 ghost use Rattle.numbers.specs.Eight.{eight};
 ghost use Rattle.ledger.specs.Stock.{depositOf, leftOf, entryAt};
-use crate::book::Ledger;
 
 // What one type has after a record, in mg: brought in, left, and released by the record.
 pub struct Decayed {
@@ -12,11 +12,69 @@ pub struct Decayed {
     pub release: u64,
 }
 
-// The ledger after a record, the eight releases and their sum x0, in mg.
-pub struct Settled {
-    pub ledger: Ledger,
-    pub releases: [u64; 8],
-    pub x0: u64,
+// What each of the types 1 to 8 has after a record.
+pub struct AllDecayed {
+    pub one: Decayed,
+    pub two: Decayed,
+    pub three: Decayed,
+    pub four: Decayed,
+    pub five: Decayed,
+    pub six: Decayed,
+    pub seven: Decayed,
+    pub eight: Decayed,
+}
+
+impl AllDecayed {
+    // Answers the carbon brought in, for each type.
+    pub(crate) fn brought(self) -> [u64; 8]
+        ensures { λ r. ⌜ r ≡ self .one .brought ∷ self .two .brought ∷ self .three .brought ∷ self .four .brought
+            ∷ self .five .brought ∷ self .six .brought ∷ self .seven .brought ∷ self .eight .brought ∷ [] ⌝ }
+    {
+        [
+            self.one.brought,
+            self.two.brought,
+            self.three.brought,
+            self.four.brought,
+            self.five.brought,
+            self.six.brought,
+            self.seven.brought,
+            self.eight.brought,
+        ]
+    }
+
+    // Answers the carbon left, for each type.
+    pub(crate) fn stock(self) -> [u64; 8]
+        ensures { λ r. ⌜ r ≡ self .one .stock ∷ self .two .stock ∷ self .three .stock ∷ self .four .stock
+            ∷ self .five .stock ∷ self .six .stock ∷ self .seven .stock ∷ self .eight .stock ∷ [] ⌝ }
+    {
+        [
+            self.one.stock,
+            self.two.stock,
+            self.three.stock,
+            self.four.stock,
+            self.five.stock,
+            self.six.stock,
+            self.seven.stock,
+            self.eight.stock,
+        ]
+    }
+
+    // Answers the carbon released, for each type.
+    pub(crate) fn releases(self) -> [u64; 8]
+        ensures { λ r. ⌜ r ≡ self .one .release ∷ self .two .release ∷ self .three .release ∷ self .four .release
+            ∷ self .five .release ∷ self .six .release ∷ self .seven .release ∷ self .eight .release ∷ [] ⌝ }
+    {
+        [
+            self.one.release,
+            self.two.release,
+            self.three.release,
+            self.four.release,
+            self.five.release,
+            self.six.release,
+            self.seven.release,
+            self.eight.release,
+        ]
+    }
 }
 
 // Answers the carbon that a mass in kg brings at place t, in mg.
