@@ -1,0 +1,62 @@
+-- Document 01, "The spreadsheet door", its first paragraph: what a cell is answered.
+use Prim.Native.Nat.{ℕ, _*_, _/_, _%_, _^_}
+use mathlib.Core.Bool.{Bool, true, false, cond}
+use lib.Dec.{leb, eqb}
+use lib.IntN.{ℤ, pos, negsuc, negℤ}
+use lib.Ieee.{Float, nan, inf, fin, up, down}
+use Rattle.door.specs.declared.cell.Cell.{Cell}
+use Rattle.door.specs.declared.cell.Cell.the-variants.{Empty, Number}
+use Rattle.door.specs.declared.cell.Numbers.{Numbers}
+use Rattle.door.specs.declared.cell.Weighed.{Weighed}
+use Rattle.door.specs.declared.cell.Weighed.the-variants.{Mass, EmptyCell, NotWhole, OutOfRange}
+
+-- The largest mass, in kilograms.
+abbrev pub massLimit : ℕ
+massLimit = 10 ^ 9
+
+-- A refused cell gives mass 0.
+abbrev pub refused : ℕ → Numbers
+refused number = record { refusal = number; mass = 0 }
+
+-- An accepted cell has no refusal.
+abbrev pub accepted : ℕ → Numbers
+accepted mass = record { refusal = 0; mass = mass }
+
+-- The numbers of each case of the answer.
+abbrev pub numbersOf : Weighed → Numbers
+numbersOf (Mass mass) = accepted mass
+numbersOf EmptyCell = refused 10
+numbersOf NotWhole = refused 11
+numbersOf OutOfRange = refused 12
+
+-- The whole number that a float is, if it is one.
+pub data Whole : Type 0 where
+  whole : ℤ → Whole
+  not-whole : Whole
+
+abbrev pub isWhole : Whole → Bool
+isWhole (whole z) = true
+isWhole not-whole = false
+
+-- The whole number of a sign bit and a size: minus zero is 0.
+abbrev pub signed : Bool → ℕ → ℤ
+signed false size = pos size
+signed true size = negℤ (pos size)
+
+-- A finite float is m × 2^e with its sign, where 2^e is up e / down e: it is whole where this division leaves nothing over.
+abbrev pub wholeOf : Float → Whole
+wholeOf nan = not-whole
+wholeOf (inf sign) = not-whole
+wholeOf (fin sign m e) = cond (eqb (m * up e % down e) 0) (whole (signed sign (m * up e / down e))) not-whole
+
+-- A number that is not whole, is infinite or is not a number is refused with 11. A whole number below 0 (negsuc n is −1 − n) or
+-- above 10^9 is refused with 12. Otherwise the answer is that mass.
+abbrev pub answerToNumber : Whole → Numbers
+answerToNumber not-whole = refused 11
+answerToNumber (whole (negsuc n)) = refused 12
+answerToNumber (whole (pos n)) = cond (leb n massLimit) (accepted n) (refused 12)
+
+-- An empty cell is refused with 10.
+abbrev pub answerTo : Cell → Numbers
+answerTo Empty = refused 10
+answerTo (Number kg) = answerToNumber (wholeOf kg)

@@ -1,0 +1,44 @@
+-- Texts that are written one after another are one text, and a text that is written into zeros makes a line.
+use mathlib.Core.Path.{_≡_, refl, sym, ap, _∙_}
+use mathlib.Core.List.{List, [], _∷_, _++_}
+use Prim.Native.Nat.{ℕ, _+_, _-_, _≤_}
+use native.Mathlib.Nat.{zero-add}
+use native.Mathlib.Omega.{arith}
+use lib.ListN.{length, drop, set, replicate, length-append, length-replicate, replicate-append-replicate}
+use lib.Seq.{sets, sets-eq, drop-at}
+use Rattle.numbers.proofs.Bytes.{sets-join}
+use Rattle.line.specs.declared.form.Line.{Line}
+use Rattle.line.specs.Line.{padded, Lendable}
+use Rattle.line.specs.Writing.{Writes}
+use Rattle.line.proofs.Line.{line-lendable}
+
+module _ {l m xs : List ℕ} {at mid : ℕ} (first : Writes l at xs m mid) where
+  pub write-on : {r ys : List ℕ} {end : ℕ} → Writes m mid ys r end → Writes l at (xs ++ ys) r end
+  write-on {ys = ys} next =
+      record {
+        stands = next .stands ∙ rw (first .stands, first .ends) (sets-join xs ys l at);
+        ends = simp length-append (omega arith);
+      }
+
+  pub write-byte : (b : ℕ) → Writes l at (xs ++ (b ∷ [])) (set m mid b) (mid + 1)
+  write-byte b = write-on (record { stands = refl; ends = refl })
+
+-- A text that is written into zeros takes the place of as many.
+in-zeros : (text : List ℕ) (k : ℕ) → sets (replicate (length text + k) 0) 0 text ≡ text ++ replicate k 0
+in-zeros text k =
+    let n = length text in
+    let zeros : List ℕ = replicate n 0 ++ replicate k 0 in
+    let room : 0 + n ≤ length zeros = simp (length-append, length-replicate) (omega arith) in
+    let rest : drop (0 + n) zeros ≡ replicate k 0 = rw zero-add (drop-at (replicate n 0) (replicate k 0) n (length-replicate n 0)) in
+    rw (← replicate-append-replicate {A = ℕ} n k 0, sets-eq text zeros 0 room, rest)
+
+pub written-line : {bytes text : List ℕ} {len : ℕ} → Writes (replicate 90 0) 0 text bytes len → len ≤ 90
+    → let line : Line = record { bytes = bytes; len = len } in (line ≡ padded text) × Lendable line
+unfolding padded
+written-line {bytes} {text} {len} w fits =
+    let size : len ≡ length text = omega arith in
+    let k = 90 - length text in
+    let ninety : length text + k ≡ 90 = omega arith in
+    let all : bytes ≡ text ++ replicate k 0 = w .stands ∙ ap (λ (n : ℕ). sets (replicate n 0) 0 text) (sym ninety) ∙ in-zeros text k in
+    let same : _≡_ {A = Line} (record { bytes = bytes; len = len }) (padded text) = λ i. record { bytes = all i; len = size i } in
+    (same, rw same (line-lendable text (omega arith)))
