@@ -1,0 +1,25 @@
+-- The image of a fresh ledger is 136 zeros.
+use mathlib.Core.Path.{_≡_, refl, _∙_}
+use borrow.Author.Needs.{needs}
+use borrow.Author.Tests.{eq-eqb, ne-eqb}
+use Rattle.ledger.specs.Stock.{fresh}
+use Rattle.abi.specs.Image.{imageOf}
+use Rattle.abi.specs.Entries.{freshLeft}
+use Rattle.abi.proofs.landfill_fresh.Statement.{statement}
+use Rattle.abi.proofs.landfill_fresh.Tie as tie
+
+returns-2 : tie.Need-returns-2
+unfolding freshLeft imageOf fresh
+returns-2 c =
+    simp (eq-eqb _ _ (c .before .before .before .before .before .if1 .left)) (refl, c .before .before .write .ensures ∙ rw (c .before .before .before .fresh .ensures))
+
+pub landfill-fresh-spec : {M : Type 1} → statement M
+unfolding freshLeft
+landfill-fresh-spec =
+    tie.close
+    (tie.spec
+    (λ c. simp (ne-eqb _ _ (c .if1 .taken)) (refl, refl))
+    (λ c κs. search needs)
+    (λ c κs. search needs)
+    (λ c. search needs)
+    returns-2)

@@ -1,0 +1,151 @@
+// The entries for software that links the ledger from C: numbers and byte slices in, numbers and lent bytes out.
+// include/landfill.h is their description for the caller; each is thin over the proved crates.
+mod image;
+
+ghost use mathlib.Core.Bool.{cond};
+ghost use mathlib.Core.Path.{_≡_};
+ghost use Prim.Native.Nat.{_≤_};
+ghost use lib.Dec.{eqb};
+ghost use lib.ListN.{length, drop};
+ghost use mathlib.Core.List.{_++_};
+ghost use Rattle.decay.specs.Series.{entryOf};
+ghost use Rattle.door.specs.Cell.{answerTo};
+ghost use Rattle.door.specs.Point.{chartedOf};
+ghost use Rattle.ledger.specs.Take.{totalsOf};
+ghost use Rattle.run.specs.Run.{outOf};
+ghost use Rattle.abi.specs.Image.{imageBytes, ledgerOf};
+ghost use Rattle.abi.specs.Entries.{freshLeft, answerRow, taken, takeImage, takeOut, takeAnswer, runHere, runImage, cellOf};
+use door::Cell;
+use ledger::Answer;
+
+// Answers the table entry of a rate in thousandths, kind 1 by year and 2 by month, and 0 for any other rate or kind.
+#[no_mangle]
+pub extern "C" fn landfill_entry(kind: u8, rate: u16) -> u32
+    ensures { λ r. ⌜ r ≡ entryOf kind rate ⌝ }
+{
+    decay::entry(kind, rate)
+}
+
+// Writes the image of a fresh ledger, all zero; a buffer that is not 136 bytes is refused with 3.
+#[no_mangle]
+pub extern "C" fn landfill_fresh(ledger: &mut [u8]) -> u8
+    ensures { λ r. ⌜ r ≡ cond (eqb (length (now (ledger .entry))) imageBytes) 0 3 ⌝ }
+    ensures { λ _. ⌜ now (ledger .exit) ≡ freshLeft (now (ledger .entry)) ⌝ }
+{
+    if ledger.len() != image::BYTES {
+        return 3;
+    }
+    image::write(ledger, ledger::Ledger::fresh());
+    0
+}
+
+// Writes the eight releases, x0, figure and bound of an answer.
+fn write_answer(out: &mut [u8], answer: Answer)
+    requires { ⌜ 88 ≤ length (now out) ⌝ }
+    ensures { λ _. ⌜ now (out .exit) ≡ answerRow answer ++ drop 88 (now (out .entry)) ⌝ }
+{
+    let releases = answer.releases;
+    image::write_row(out, 0, releases);
+    numbers::write_u64(out, 64, answer.x0);
+    numbers::write_u64(out, 72, answer.figure);
+    numbers::write_u64(out, 80, answer.bound);
+}
+
+// Takes one record: the image, the output and the answer are written, or the refusal's number comes back.
+#[no_mangle]
+pub extern "C" fn landfill_take(
+    ledger: &mut [u8],
+    record: &[u8],
+    out: &mut [u8],
+    answer: &mut [u8],
+) -> u8
+    ensures { λ r. ⌜ r ≡ taken (now (ledger .entry)) (now («record» .entry)) (now (out .entry)) (now (answer .entry)) .refusal ⌝ }
+    ensures { λ _. ⌜ now (ledger .exit) ≡ takeImage (now (ledger .entry)) (now («record» .entry)) (now (out .entry)) (now (answer .entry)) ⌝ }
+    ensures { λ _. ⌜ now (out .exit) ≡ takeOut (now (ledger .entry)) (now («record» .entry)) (now (out .entry)) (now (answer .entry)) ⌝ }
+    ensures { λ _. ⌜ now (answer .exit) ≡ takeAnswer (now (ledger .entry)) (now («record» .entry)) (now (out .entry)) (now (answer .entry)) ⌝ }
+{
+    let before = image::read(ledger);
+    if answer.len() < 88 {
+        return before.refusal(record, 0);
+    }
+    let taken = before.take(record, out);
+    write_answer(answer, taken);
+    if taken.refusal == 0 {
+        let after = taken.ledger;
+        image::write(ledger, after);
+    }
+    taken.refusal
+}
+
+// Takes the records of a file one after another, writes an output record for each accepted one, and leaves the image of the
+// ledger after the last of them; answers the refusal of the next one, 0 if none.
+#[no_mangle]
+pub extern "C" fn landfill_run(
+    ledger: &mut [u8],
+    records: &[u8],
+    out: &mut [u8],
+    accepted: &mut u64,
+) -> u8
+    ensures { λ r. ⌜ r ≡ runHere (now (ledger .entry)) (now (records .entry)) (length (now (out .entry))) .refusal ⌝ }
+    ensures { λ _. ⌜ now (ledger .exit) ≡ runImage (now (ledger .entry)) (runHere (now (ledger .entry)) (now (records .entry)) (length (now (out .entry)))) ⌝ }
+    ensures { λ _. ⌜ now (out .exit) ≡ outOf (runHere (now (ledger .entry)) (now (records .entry)) (length (now (out .entry)))) (now (out .entry)) ⌝ }
+    ensures { λ _. ⌜ now (accepted .exit) ≡ runHere (now (ledger .entry)) (now (records .entry)) (length (now (out .entry))) .accepted ⌝ }
+{
+    let end = run::run(image::read(ledger), records, out);
+    *accepted = end.accepted;
+    if end.accepted > 0 {
+        let last = end.ledger;
+        image::write(ledger, last);
+    }
+    end.refusal
+}
+
+// Answers 0 and the carbon left and brought in over all types, in mg; an unsound ledger gives 3 and zeros.
+#[no_mangle]
+pub extern "C" fn landfill_totals(ledger: &[u8], stock: &mut u64, brought: &mut u64) -> u8
+    ensures { λ r. ⌜ r ≡ totalsOf (ledgerOf (now (ledger .entry))) .refusal ⌝ }
+    ensures { λ _. ⌜ now (stock .exit) ≡ totalsOf (ledgerOf (now (ledger .entry))) .stock ⌝ }
+    ensures { λ _. ⌜ now (brought .exit) ≡ totalsOf (ledgerOf (now (ledger .entry))) .brought ⌝ }
+{
+    let totals = image::read(ledger).totals();
+    *stock = totals.stock;
+    *brought = totals.brought;
+    totals.refusal
+}
+
+// Answers 0 and the mass in kilograms that a cell names, or 10, 11 or 12 and mass 0; `filled` 0 is an empty cell.
+#[no_mangle]
+pub extern "C" fn landfill_cell(filled: u8, kg: f64, mass: &mut u32) -> u8
+    ensures { λ r. ⌜ r ≡ answerTo (cellOf filled kg) .refusal ⌝ }
+    ensures { λ _. ⌜ now (mass .exit) ≡ answerTo (cellOf filled kg) .mass ⌝ }
+{
+    let numbers = if filled == 0 {
+        door::weigh(Cell::Empty).numbers()
+    } else {
+        door::weigh(Cell::Number(kg)).numbers()
+    };
+    *mass = numbers.mass;
+    numbers.refusal
+}
+
+// Answers 0 and a figure's point of the chart, or 13 and zeros.
+#[no_mangle]
+pub extern "C" fn landfill_point(
+    figure: u64,
+    bound: u64,
+    at: &mut f64,
+    low: &mut f64,
+    high: &mut f64,
+) -> u8
+    ensures { λ r. ⌜ r ≡ chartedOf figure bound .refusal ⌝ }
+    ensures { λ _. ⌜ now (at .exit) ≡ chartedOf figure bound .point .figure ⌝ }
+    ensures { λ _. ⌜ now (low .exit) ≡ chartedOf figure bound .point .low ⌝ }
+    ensures { λ _. ⌜ now (high .exit) ≡ chartedOf figure bound .point .high ⌝ }
+{
+    let charted = door::chart(figure, bound);
+    let point = charted.point;
+    *at = point.figure;
+    *low = point.low;
+    *high = point.high;
+    charted.refusal
+}

@@ -1,0 +1,13 @@
+pub mod Fractions
+pub mod Lists
+pub mod Accepted
+pub mod Step
+pub mod Reached
+pub mod Stock
+pub mod Stocks
+pub mod Release
+pub mod Figure
+pub mod Figures
+pub mod WholeRun
+pub mod Worked
+pub mod Proved

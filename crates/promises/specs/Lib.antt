@@ -1,0 +1,4 @@
+pub mod Offer
+pub mod Exact
+pub mod Promises
+pub mod Worked
