@@ -93,6 +93,6 @@ pub(crate) fn is_within(n: u64, brought: u64, stock: u64, t: usize) -> bool
     requires { ⌜ (n ≤ 1200) × (t < 8) ⌝ }
     ensures { λ r. ⌜ r ≡ (leb brought (ceilingOf n t) && leb stock brought) ⌝ }
 {
-    let ceiling = n * 1_000_000_000 * waste::carbon(t as u8 + 1) as u64 * 100;
+    let ceiling = n * Ledger::MASS_LIMIT * waste::carbon(t as u8 + 1) as u64 * 100;
     both(brought <= ceiling, stock <= brought)
 }

@@ -11,3 +11,4 @@ pub mod Figures
 pub mod WholeRun
 pub mod Worked
 pub mod Proved
+pub mod OneAnswer

@@ -61,7 +61,7 @@ pub fn run(ledger: Ledger, records: &[u8], out: &mut [u8]) -> Outcome
                 refusal: 1,
             };
         }
-        let refusal = ledger.early_refusal(good, &records[at..at + 48], out.len() - at);
+        let refusal = ledger.early_refusal(good, &records[at..at + Ledger::BYTES], out.len() - at);
         if refusal != 0 {
             break 'records End { accepted, refusal };
         }
@@ -73,12 +73,12 @@ pub fn run(ledger: Ledger, records: &[u8], out: &mut [u8]) -> Outcome
                 };
             }
         }
-        let answer = ledger.account(entries, &records[at..at + 48]);
+        let answer = ledger.account(entries, &records[at..at + Ledger::BYTES]);
         ledger::write(&mut out[at..], answer);
         let next = answer.ledger;
         ledger = next;
         accepted += 1;
-        at += 48;
+        at += Ledger::BYTES;
     };
     Outcome {
         ledger,
