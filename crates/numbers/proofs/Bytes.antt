@@ -60,3 +60,16 @@ pub front-written : (A B out : List ℕ) {m r : List ℕ} → m ≡ sets out 0 A
 front-written A B out p q h =
     let from : 0 + length A ≡ length A = zero-add (length A) in
     q ∙ rw p (rw (← from) (sets-join A B out 0) ∙ sets-eq (A ++ B) out 0 (rw (zero-add (length (A ++ B))) h) ∙ rw (zero-add (length (A ++ B))))
+
+-- A number's own bytes make it again.
+number-behind : (k b : ℕ) (bytes : List ℕ) (at : ℕ) → numberAt k (b ∷ bytes) (at + 1) ≡ numberAt k bytes at
+number-behind zero b bytes at = refl
+number-behind (suc k) b bytes at = rw (add-one at) (rw (← add-one at) (ap (λ (n : ℕ). getD bytes at 0 + 256 * n) (number-behind k b bytes (at + 1))))
+
+pub read-back : (k x : ℕ) → x < 256 ^ k → numberAt k (bytesOf k x) 0 ≡ x
+read-back zero x h = let z : x < 1 = rw pow-zero at h in omega arith
+read-back (suc k) x h =
+    let small : x < 256 ^ k * 256 = rw pow-suc at h in
+    let rest : numberAt k (x % 256 ∷ bytesOf k (x / 256)) (0 + 1) ≡ x / 256
+    = number-behind k (x % 256) (bytesOf k (x / 256)) 0 ∙ read-back k (x / 256) (omega arith) in
+    omega arith
