@@ -13,6 +13,7 @@ ghost use Rattle.door.specs.Cell.{answerTo};
 ghost use Rattle.door.specs.Point.{chartedOf};
 ghost use Rattle.ledger.specs.Take.{totalsOf};
 ghost use Rattle.run.specs.Run.{outOf};
+ghost use Rattle.line.specs.Listing.{listedOf, textOf};
 ghost use Rattle.abi.specs.Image.{imageBytes, ledgerOf};
 ghost use Rattle.abi.specs.Entries.{freshLeft, answerRow, taken, takeImage, takeOut, takeAnswer, runHere, runImage, cellOf};
 use door::Cell;
@@ -148,4 +149,17 @@ pub extern "C" fn landfill_point(
     *low = point.low;
     *high = point.high;
     charted.refusal
+}
+
+// Writes the listing of a file at the start of the text and answers 0; a text with under 90 bytes for every record begun is
+// refused with 2.
+#[no_mangle]
+pub extern "C" fn landfill_listing(records: &[u8], text: &mut [u8], written: &mut u64) -> u8
+    ensures { λ r. ⌜ r ≡ listedOf (now (records .entry)) (length (now (text .entry))) .refusal ⌝ }
+    ensures { λ _. ⌜ now (text .exit) ≡ textOf (now (records .entry)) (now (text .entry)) ⌝ }
+    ensures { λ _. ⌜ now (written .exit) ≡ listedOf (now (records .entry)) (length (now (text .entry))) .length ⌝ }
+{
+    let listed = line::listing(records, text);
+    *written = listed.length as u64;
+    listed.refusal
 }

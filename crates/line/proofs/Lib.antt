@@ -1,3 +1,5 @@
 pub mod Decimal
+pub mod Enough
 pub mod Line
+pub mod Reached
 pub mod Writing

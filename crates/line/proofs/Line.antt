@@ -1,10 +1,11 @@
 -- Laws of the lines: how long their texts are, and that a line holds its text.
-use mathlib.Core.Path.{_≡_, sym, ap}
+use mathlib.Core.Path.{_≡_, sym, ap, _∙_}
 use mathlib.Core.List.{List}
 use Prim.Native.Nat.{ℕ, _-_, _^_, _≤_, _<_}
 use native.Mathlib.Omega.{arith}
 use lib.ListN.{length, take, replicate, length-append, length-replicate}
 use lib.Seq.{take-append-seam}
+use Rattle.line.specs.declared.form.Line.{Line}
 use Rattle.line.specs.Line.{lineText, acceptedText, refusedText, padded, Lendable}
 use Rattle.line.proofs.Decimal.{few}
 
@@ -37,3 +38,7 @@ module _ (text : List ℕ) where
         within = fits;
         whole = sym (ap length line-text);
       }
+
+-- So it does where it comes from a formatter.
+pub line-is : {line : Line} {text : List ℕ} → line ≡ padded text → take (line .len) (line .bytes) ≡ text
+line-is {text = text} e = ap (λ (l : Line). take (l .len) (l .bytes)) e ∙ line-text text

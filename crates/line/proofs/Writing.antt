@@ -4,7 +4,7 @@ use mathlib.Core.List.{List, [], _∷_, _++_}
 use Prim.Native.Nat.{ℕ, _+_, _-_, _≤_}
 use native.Mathlib.Nat.{zero-add}
 use native.Mathlib.Omega.{arith}
-use lib.ListN.{length, drop, set, replicate, length-append, length-replicate, replicate-append-replicate}
+use lib.ListN.{length, drop, set, replicate, length-set, length-append, length-replicate, replicate-append-replicate}
 use lib.Seq.{sets, sets-eq, drop-at}
 use Rattle.numbers.proofs.Bytes.{sets-join}
 use Rattle.line.specs.declared.form.Line.{Line}
@@ -12,16 +12,20 @@ use Rattle.line.specs.Line.{padded, Lendable}
 use Rattle.line.specs.Writing.{Writes}
 use Rattle.line.proofs.Line.{line-lendable}
 
+pub one-byte : {l : List ℕ} {at : ℕ} (b : ℕ) → Writes l at (b ∷ []) (set l at b) (at + 1)
+one-byte {l} {at} b = record { stands = refl; as-many = length-set l at b; ends = refl }
+
 module _ {l m xs : List ℕ} {at mid : ℕ} (first : Writes l at xs m mid) where
   pub write-on : {r ys : List ℕ} {end : ℕ} → Writes m mid ys r end → Writes l at (xs ++ ys) r end
   write-on {ys = ys} next =
       record {
         stands = next .stands ∙ rw (first .stands, first .ends) (sets-join xs ys l at);
+        as-many = next .as-many ∙ first .as-many;
         ends = simp length-append (omega arith);
       }
 
   pub write-byte : (b : ℕ) → Writes l at (xs ++ (b ∷ [])) (set m mid b) (mid + 1)
-  write-byte b = write-on (record { stands = refl; ends = refl })
+  write-byte b = write-on (one-byte b)
 
 -- A text that is written into zeros takes the place of as many.
 in-zeros : (text : List ℕ) (k : ℕ) → sets (replicate (length text + k) 0) 0 text ≡ text ++ replicate k 0

@@ -1,8 +1,11 @@
-// The lines that the listing prints: one for each accepted record, and the one of a refusal.
+// The lines that the listing prints, one for each accepted record and the one of a refusal, and the listing of a whole file.
 // It serves the last part of document 01's section 'Worked figures'; the program `listing` calls it.
+mod file;
 mod form;
 mod text;
 
+pub use file::Listed;
+pub use file::listing;
 pub use form::Line;
 use text::number;
 use text::words;

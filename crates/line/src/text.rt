@@ -31,8 +31,8 @@ pub(crate) fn number(out: &mut [u8; 90], at: usize, n: u64, follows: u8) -> usiz
 }
 
 // Writes words from a place on, and answers the place after them.
-pub(crate) fn words(out: &mut [u8; 90], at: usize, text: &[u8]) -> usize
-    requires { ⌜ at + length (now text) ≤ 90 ⌝ }
+pub(crate) fn words(out: &mut [u8], at: usize, text: &[u8]) -> usize
+    requires { ⌜ at + length (now text) ≤ length (now out) ⌝ }
     ensures { λ r. ⌜ Writes (now (out .entry)) at (now (text .entry)) (now (out .exit)) r ⌝ }
 {
     let mut i: usize = 0;

@@ -31,6 +31,7 @@ use Rattle.door.proofs.cell.Weighed.numbers.Reads as numbers
 use Rattle.door.proofs.chart.Reads as chart
 use Rattle.line.proofs.accepted.Reads as accepted
 use Rattle.line.proofs.refused.Reads as refused
+use Rattle.line.proofs.listing.Reads as listing
 use Rattle.abi.proofs.landfill_entry.Reads as landfill-entry
 use Rattle.abi.proofs.landfill_fresh.Reads as landfill-fresh
 use Rattle.abi.proofs.landfill_take.Reads as landfill-take
@@ -38,6 +39,7 @@ use Rattle.abi.proofs.landfill_run.Reads as landfill-run
 use Rattle.abi.proofs.landfill_totals.Reads as landfill-totals
 use Rattle.abi.proofs.landfill_cell.Reads as landfill-cell
 use Rattle.abi.proofs.landfill_point.Reads as landfill-point
+use Rattle.abi.proofs.landfill_listing.Reads as landfill-listing
 
 -- numbers
 pub mul-div-one : (κs : _) (a : _) (r r′ : _) (s s′ : _) → mul-div.Learnt κs a r s → mul-div.Learnt κs a r′ s′ → r ≡ r′
@@ -130,6 +132,9 @@ accepted-one κs a r r′ s s′ p q = p .0 ∙ sym (q .0)
 pub refused-one : (κs : _) (a : _) (r r′ : _) (s s′ : _) → refused.Learnt κs a r s → refused.Learnt κs a r′ s′ → r ≡ r′
 refused-one κs a r r′ s s′ p q = p .0 ∙ sym (q .0)
 
+pub listing-one : (κs : _) (a : _) (r r′ : _) (s s′ : _) → listing.Learnt κs a r s → listing.Learnt κs a r′ s′ → (r ≡ r′) × (now (s .1 .0) ≡ now (s′ .1 .0))
+listing-one κs a r r′ s s′ p q = (p .0 ∙ sym (q .0), p .1 .0 ∙ sym (q .1 .0))
+
 -- abi
 pub landfill-entry-one : (κs : _) (a : _) (r r′ : _) (s s′ : _) → landfill-entry.Learnt κs a r s → landfill-entry.Learnt κs a r′ s′ → r ≡ r′
 landfill-entry-one κs a r r′ s s′ p q = p ∙ sym q
@@ -151,3 +156,6 @@ landfill-cell-one κs a r r′ s s′ p q = (p .0 ∙ sym (q .0), p .1 ∙ sym (
 
 pub landfill-point-one : (κs : _) (a : _) (r r′ : _) (s s′ : _) → landfill-point.Learnt κs a r s → landfill-point.Learnt κs a r′ s′ → (r ≡ r′) × (now (s .1 .1 .0) ≡ now (s′ .1 .1 .0)) × (now (s .1 .1 .1 .0) ≡ now (s′ .1 .1 .1 .0)) × (now (s .1 .1 .1 .1 .0) ≡ now (s′ .1 .1 .1 .1 .0))
 landfill-point-one κs a r r′ s s′ p q = (p .0 ∙ sym (q .0), p .1 .0 ∙ sym (q .1 .0), p .1 .1 .0 ∙ sym (q .1 .1 .0), p .1 .1 .1 ∙ sym (q .1 .1 .1))
+
+pub landfill-listing-one : (κs : _) (a : _) (r r′ : _) (s s′ : _) → landfill-listing.Learnt κs a r s → landfill-listing.Learnt κs a r′ s′ → (r ≡ r′) × (now (s .1 .0) ≡ now (s′ .1 .0)) × (now (s .1 .1 .0) ≡ now (s′ .1 .1 .0))
+landfill-listing-one κs a r r′ s s′ p q = (p .0 ∙ sym (q .0), p .1 .0 ∙ sym (q .1 .0), p .1 .1 ∙ sym (q .1 .1))

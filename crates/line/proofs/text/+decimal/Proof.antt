@@ -1,5 +1,5 @@
 -- A number of more digits is written as n / 10, which is less, and then its last digit.
-use mathlib.Core.Path.{refl, ap}
+use mathlib.Core.Path.{ap}
 use Prim.Native.Nat.{ℕ, _+_, _%_, _<_}
 use native.Mathlib.Omega.{arith}
 use lib.ListN.{length}
@@ -7,7 +7,7 @@ use borrow.Author.Needs.{needs}
 use borrow.Fn.Kinds.{In}
 use borrow.Fn.PlainCycle.{Measures, is, falls, and}
 use Rattle.line.proofs.Decimal.{one-digit, more-digits, one-more}
-use Rattle.line.proofs.Writing.{write-byte}
+use Rattle.line.proofs.Writing.{one-byte, write-byte}
 use Rattle.line.proofs.text.decimal.Reads as decimal
 use Rattle.line.proofs.text.decimal.Kinds as decimal-kinds
 use Rattle.line.proofs.text.+decimal.Lts-decimal as decimal-lts
@@ -30,7 +30,7 @@ pub +decimal-spec : {M : Type 1} → statement M
     (λ c. search needs)
     (λ c. omega (arith, ap length (one-digit (c .before .args .n) (omega arith))))
     (λ c. search needs)
-    (λ c. rw (one-digit (c .before .args .n) (omega arith)) (record { stands = refl; ends = refl }))
+    (λ c. rw (one-digit (c .before .args .n) (omega arith)) (one-byte (48 + c .before .args .n)))
     (λ c κs. (search needs, omega (arith, one-more (c .before .before .args .n) (omega arith))))
     (λ c. search needs)
     (λ c. search needs)

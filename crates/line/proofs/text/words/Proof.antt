@@ -38,7 +38,7 @@ words-spec =
     (tie.spec
     Inv-loop
     μ-loop
-    (λ c. (search needs, record { stands = refl; ends = refl }))
+    (λ c. (search needs, record { stands = refl; as-many = refl; ends = refl }))
     (λ c. search needs)
     (λ c. search needs)
     (λ c. search needs)
@@ -46,4 +46,5 @@ words-spec =
     (λ c. search needs)
     loop-again
     (λ c. search needs)
+    (λ c. c .before .loop .inv .1 .as-many)
     returns)

@@ -1,0 +1,102 @@
+/* Runs one peer over the first records of a monthly file of 1200, or compares what all peers write and
+ * fails where one refuses a record, or library and reference differ.
+ * Usage: bench PEER COUNT, with COUNT in four digits; bench compare */
+#include "doubles.h"
+#include "inputs.h"
+#include "landfill.h"
+#include "reference.h"
+
+#include <inttypes.h>
+#include <stdio.h>
+#include <stdlib.h>
+#include <string.h>
+
+enum { RECORDS = 1200, BYTES = 48, PEERS = 5, EQUATION = 4, MOST_BY_EQUATION = 120 };
+
+static uint8_t file[RECORDS * BYTES], out[PEERS][RECORDS * BYTES];
+
+/* Monthly records of eight types in climate 4, every one accepted. */
+static void make_months(void)
+{
+    seed(1);
+    for (unsigned i = 0; i < RECORDS; i++) {
+        uint8_t *record = file + BYTES * i;
+        reference_write(record, 2, i + 1);
+        record[2] = 2;
+        record[3] = 4;
+        record[4] = (uint8_t)(1 + below(100));
+        for (int at = 5; at <= 7; at++) record[at] = (uint8_t)below(101);
+        record[8] = (uint8_t)(1 + below(4));
+        record[9] = (uint8_t)(1 + below(100));
+        reference_write(record + 10, 2, below(10001));
+        for (int t = 0; t < 8; t++) reference_write(record + 16 + 4 * t, 4, 1 + below(LANDFILL_MASS_LIMIT));
+    }
+}
+
+static uint8_t by_library(const uint8_t *records, size_t records_len, uint8_t *into, size_t into_len, uint64_t *accepted)
+{
+    uint8_t ledger[LANDFILL_LEDGER_BYTES];
+    landfill_fresh(ledger, sizeof ledger);
+    return landfill_run(ledger, sizeof ledger, records, records_len, into, into_len, accepted);
+}
+
+static uint8_t by_reference(const uint8_t *records, size_t records_len, uint8_t *into, size_t into_len, uint64_t *accepted)
+{
+    uint8_t ledger[LANDFILL_LEDGER_BYTES];
+    reference_fresh(ledger, sizeof ledger);
+    return reference_run(ledger, sizeof ledger, records, records_len, into, into_len, accepted);
+}
+
+static const struct {
+    const char *name;
+    doubles_run *run;
+} peers[PEERS] = {{"library", by_library},
+                  {"reference", by_reference},
+                  {"exp-each", doubles_exp_each},
+                  {"exp-once", doubles_exp_once},
+                  {"equation", doubles_equation}};
+
+/* Tells whether a peer accepts all of the first records. */
+static int runs(int peer, size_t count)
+{
+    uint64_t accepted;
+    uint8_t refusal = peers[peer].run(file, BYTES * count, out[peer], sizeof out[peer], &accepted);
+    return refusal == 0 && accepted == count;
+}
+
+/* Prints how far a peer's figures are from the library's, at most, the bound of the library's figure there, and how many
+ * records have figures as far apart as the bound or farther. */
+static void compare(int peer, size_t count)
+{
+    uint64_t most = 0, bound_there = 0, outside = 0;
+    for (size_t i = 0; i < count; i++) {
+        const uint8_t *one = out[0] + BYTES * i, *other = out[peer] + BYTES * i;
+        uint64_t figure = reference_read(one + 16, 8), its = reference_read(other + 16, 8);
+        uint64_t apart = figure > its ? figure - its : its - figure, bound = reference_read(one + 24, 8);
+        if (apart > most) {
+            most = apart;
+            bound_there = bound;
+        }
+        outside += apart >= bound;
+    }
+    printf("| %s | %zu | %s | %" PRIu64 " | %" PRIu64 " | %" PRIu64 " |\n", peers[peer].name, count,
+           memcmp(out[0], out[peer], BYTES * count) == 0 ? "yes" : "no", most, bound_there, outside);
+}
+
+int main(int words, char **word)
+{
+    make_months();
+    if (words == 2 || (words == 3 && strcmp(word[1], "reference") == 0)) reference_start();
+    if (words == 2 && strcmp(word[1], "compare") == 0) {
+        if (!runs(0, RECORDS)) return 1;
+        for (int peer = 1; peer < PEERS; peer++) {
+            size_t count = peer == EQUATION ? MOST_BY_EQUATION : RECORDS;
+            if (!runs(peer, count)) return 1;
+            compare(peer, count);
+        }
+        return memcmp(out[0], out[1], sizeof out[0]) == 0 ? 0 : 1;
+    }
+    for (int peer = 0; words == 3 && peer < PEERS; peer++)
+        if (strcmp(word[1], peers[peer].name) == 0) return runs(peer, strtoul(word[2], NULL, 10)) ? 0 : 1;
+    return 2;
+}

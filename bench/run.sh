@@ -1,0 +1,100 @@
+#!/usr/bin/env bash
+# Measures landfill_run beside four peers in C and prints the tables of docs/PERFORMANCE.md: instructions for each record,
+# ratios, how far the figures are apart, and the library's size.
+# Usage: bash bench/run.sh [--library FILE | --standin]
+set -eu
+cd "$(dirname "$0")/.."
+. tests/c/build.sh
+prepare "$@"
+
+peers='library reference exp-each exp-once equation'
+counts='0012 0120 1200'
+
+# Prints how many instructions a program executes. Under the emulator each leaves a line in a log, and the lines are counted.
+by_emulator() {
+    rm -f "$target/log"
+    mkfifo "$target/log"
+    grep -c '^Trace' <"$target/log" &
+    "$emulator" -one-insn-per-tb -d exec,nochain -D "$target/log" "$@"
+    wait $!
+    rm -f "$target/log"
+}
+by_perf() { perf stat -x, -e instructions:u "$@" 2>&1 >/dev/null | awk -F, '/instructions/ { print $1 }'; }
+by_valgrind() {
+    valgrind --tool=callgrind --callgrind-out-file=/dev/null "$@" 2>&1 >/dev/null | awk '/Collected/ { print $4 }'
+}
+
+if [ -n "$emulator" ]; then counter=by_emulator
+elif perf stat -e instructions:u true 2>&1 | grep -q '[0-9].*instructions'; then counter=by_perf
+elif command -v valgrind >/dev/null; then counter=by_valgrind
+else stop "neither perf nor valgrind counts instructions here"
+fi
+
+build bench -Ibench bench/bench.c bench/doubles.c tests/c/inputs.c tests/c/reference.c tests/c/entries.c "$library"
+run "$target/bench" compare >"$target/compare" || stop "a record is refused, or library and reference differ: see tests/c/run.sh"
+
+# Lines of PEER RECORDS INSTRUCTIONS, the program's cost with no records taken off.
+measure() {
+    for peer in $peers; do
+        none=$($counter "$target/bench" "$peer" 0000)
+        for count in $counts; do
+            [ "$peer $count" != "equation 1200" ] || continue
+            echo "measuring $peer, $count records" >&2
+            echo "$peer $((10#$count)) $(($($counter "$target/bench" "$peer" "$count") - none))"
+        done
+    done
+}
+measure >"$target/counts"
+
+echo "Instructions for each record ($counter):"
+echo
+awk -v peers="$peers" '
+    { each[$1, $2] = $3 / $2; if (!($2 in seen)) { seen[$2] = 1; rows[++r] = $2 } }
+    # One table: a line for each number of records, a column for each peer from the first one named.
+    function table(first, ratio,    i, p, line, key) {
+        line = "| Records |"
+        for (p = first; p <= n; p++) line = line " " name[p] " |"
+        print line
+        gsub(/[^|]+/, "---", line)
+        print line
+        for (i = 1; i <= r; i++) {
+            line = "| " rows[i] " |"
+            for (p = first; p <= n; p++) {
+                key = name[p] SUBSEP rows[i]
+                if (!(key in each)) line = line " - |"
+                else if (ratio) line = line sprintf(" %.2f |", each["library", rows[i]] / each[key])
+                else line = line sprintf(" %.0f |", each[key])
+            }
+            print line
+        }
+    }
+    END {
+        n = split(peers, name, " ")
+        table(1, 0)
+        print "\nInstructions of the library over those of each peer:\n"
+        table(2, 1)
+    }' "$target/counts"
+
+cat <<'END'
+
+Figures beside the library, in grams CO2e:
+
+| Peer | Records | The same bytes | Most apart | Bound there | Records outside the bound |
+|---|---|---|---|---|---|
+END
+cat "$target/compare"
+
+# Bytes that a section takes in a program, by the sections of all members of an archive or an object.
+sections() { "${prefix}size" -A "$1" | awk '$1 ~ /^\.(text|rodata|data|bss|eh_frame)/ && $2 > 0 { print $2, $1 }'; }
+total() { sections "$1" | awk '{ total += $1 } END { print total + 0 }'; }
+
+# What is linked of the library for one entry.
+linked_for() {
+    "${prefix}ld" -r --gc-sections -e "$1" -u "$1" -o "$target/linked.o" "$library"
+    total "$target/linked.o"
+}
+
+printf '\nSize of the library, in bytes:\n\n| Part | Bytes |\n|---|---|\n'
+sections "$library" | sort -rn | awk '{ print "| `" $2 "` | " $1 " |" }'
+echo "| all | $(total "$library") |"
+echo "| linked for \`landfill_run\` alone | $(linked_for landfill_run) |"

@@ -1,0 +1,19 @@
+-- The listing decides.
+use mathlib.Core.Path.{_≡_, ap}
+use borrow.Author.Needs.{needs}
+use Rattle.line.specs.declared.file.Listed.{Listed}
+use Rattle.abi.proofs.landfill_listing.Statement.{statement}
+use Rattle.abi.proofs.landfill_listing.Tie as tie
+
+returns : tie.Need-returns
+returns c =
+    let done = c .before .before .listing .ensures in
+    (ap (λ (x : Listed). x .refusal) (done .0), (done .1 .0, ap (λ (x : Listed). x .length) (done .0)))
+
+pub landfill-listing-spec : {M : Type 1} → statement M
+landfill-listing-spec =
+    tie.close
+    (tie.spec
+    (λ c κs. search needs)
+    (λ c. search needs)
+    returns)

@@ -1,0 +1,296 @@
+/* Runs the library and the reference on many inputs, good and bad, and compares every answer and every byte.
+ * Usage: differential [SEED] */
+#include "inputs.h"
+#include "reference.h"
+#include "sides.h"
+
+#include <inttypes.h>
+#include <stdio.h>
+#include <stdlib.h>
+#include <string.h>
+
+/* ---- The calls, alike for both sides */
+
+static void fresh(const struct entries *it, struct side *s)
+{
+    s->answer = it->fresh(at(s, LEDGER), length_of(LEDGER));
+}
+
+static void take(const struct entries *it, struct side *s)
+{
+    s->answer = it->take(at(s, LEDGER), length_of(LEDGER), at(s, RECORDS), length_of(RECORDS), at(s, OUT), length_of(OUT),
+                         at(s, ANSWER), length_of(ANSWER));
+}
+
+static void run(const struct entries *it, struct side *s)
+{
+    s->answer = it->run(at(s, LEDGER), length_of(LEDGER), at(s, RECORDS), length_of(RECORDS), at(s, OUT), length_of(OUT),
+                        &s->numbers.whole[1]);
+}
+
+static void totals(const struct entries *it, struct side *s)
+{
+    s->answer = it->totals(at(s, LEDGER), length_of(LEDGER), &s->numbers.whole[1], &s->numbers.whole[3]);
+}
+
+static void entry(const struct entries *it, struct side *s)
+{
+    s->answer = it->entry(given.kind, given.rate);
+}
+
+static void cell(const struct entries *it, struct side *s)
+{
+    s->answer = it->cell(given.filled, given.kg, &s->numbers.mass[1]);
+}
+
+static void point(const struct entries *it, struct side *s)
+{
+    double *real = s->numbers.real;
+    s->answer = it->point(given.figure, given.bound, &real[1], &real[3], &real[5]);
+}
+
+static void listing(const struct entries *it, struct side *s)
+{
+    s->answer = it->listing(at(s, RECORDS), length_of(RECORDS), at(s, TEXT), length_of(TEXT), &s->numbers.whole[1]);
+}
+
+/* ---- Look-ups, cells and points */
+
+static void all_look_ups(void)
+{
+    for (unsigned kind = 0; kind <= 255; kind++) {
+        unsigned last = kind <= 3 ? 65535 : 402;
+        for (unsigned rate = 0; rate <= last; rate++) {
+            given.kind = (uint8_t)kind;
+            given.rate = (uint16_t)rate;
+            both("landfill_entry", entry);
+        }
+    }
+}
+
+static void one_cell(uint64_t bits)
+{
+    static const uint8_t FILLED[] = {1, 0, 2, 128, 255};
+    memcpy(&given.kg, &bits, sizeof bits);
+    size_t ways = chance(10) ? sizeof FILLED : 1;
+    for (size_t i = 0; i < ways; i++) {
+        given.filled = FILLED[i];
+        both("landfill_cell", cell);
+    }
+}
+
+static uint64_t bits_of(double number)
+{
+    uint64_t bits;
+    memcpy(&bits, &number, sizeof bits);
+    return bits;
+}
+
+/* The number, the floats beside it, and the same with the other sign. */
+static void cells_around(uint64_t bits)
+{
+    const uint64_t SIGN = (uint64_t)1 << 63;
+    for (uint64_t i = 0; i < 5; i++) {
+        one_cell(bits + i - 2);
+        one_cell((bits + i - 2) ^ SIGN);
+    }
+}
+
+static void all_cells(void)
+{
+    static const double EDGES[] = {0,          0x1p-1074,    0x1p-1022, 1e-9,         0.5,         1,      1.5,
+                                   2,          999999999,    1e9,       1000000000.5, 1000000001,  0x1p31, 4294967295.0,
+                                   4294967296, 0x1p52,       0x1p53,    0x1p63,       0x1p64,      1e18,   1e19,
+                                   1e300,      0x1.fffp1023, 16777217,  123456789,    999999999.5, 0.1,    1e9 - 1e-6};
+    const uint64_t INFINITE = (uint64_t)0x7FF << 52;
+    for (size_t i = 0; i < sizeof EDGES / sizeof *EDGES; i++) cells_around(bits_of(EDGES[i]));
+    cells_around(INFINITE);
+    for (int i = 0; i < 52; i++) {
+        cells_around(INFINITE | (uint64_t)1 << i);
+        cells_around(INFINITE | draw() >> 12);
+        cells_around((uint64_t)1 << i);
+        cells_around(bits_of((double)((uint64_t)1 << i)));
+    }
+    for (int i = 0; i < 40000; i++) {
+        uint64_t whole = bits_of((double)edge(0, 1100000000));
+        one_cell(draw());
+        one_cell(whole);
+        one_cell(whole ^ (uint64_t)1 << below(64));
+    }
+}
+
+static void one_point(uint64_t figure, uint64_t bound)
+{
+    given.figure = figure;
+    given.bound = bound;
+    both("landfill_point", point);
+}
+
+static void all_points(void)
+{
+    const uint64_t MOST = 9007199254740992;
+    for (int i = 0; i < 20000; i++) {
+        uint64_t part = edge(0, MOST), any = edge(0, UINT64_MAX), size = any_size();
+        one_point(part, MOST - part - 2 + below(5));
+        one_point(part, edge(0, part));
+        one_point(edge(0, part), part);
+        one_point(any, edge(0, UINT64_MAX));
+        one_point(UINT64_MAX - edge(0, MOST), part);
+        one_point(size, any_size());
+    }
+}
+
+/* ---- Ledgers and steps */
+
+static void lend_ledger(struct series series, unsigned damaged)
+{
+    uint8_t image[137];
+    make_ledger(image, series);
+    if (chance(damaged)) damage_ledger(image);
+    size_t length = chance(damaged / 10) ? below(300) : 136;
+    memcpy(lend(LEDGER, length), image, length < 136 ? length : 136);
+}
+
+static void all_totals(void)
+{
+    for (size_t length = 0; length <= 300; length++) {
+        lend(LEDGER, length);
+        both("landfill_fresh", fresh);
+        uint8_t image[301] = {0};
+        make_ledger(image, any_series(1200));
+        memcpy(lend(LEDGER, length), image, length);
+        both("landfill_totals", totals);
+    }
+    for (int i = 0; i < 40000; i++) {
+        lend_ledger(any_series(1200), 60);
+        both("landfill_totals", totals);
+    }
+}
+
+static void one_take(struct series series, unsigned damaged, size_t record_len, size_t out_len, size_t answer_len)
+{
+    uint8_t bytes[48];
+    make_record(bytes, series);
+    if (chance(damaged)) damage_record(bytes);
+    memcpy(lend(RECORDS, record_len), bytes, record_len < 48 ? record_len : 48);
+    lend(OUT, out_len);
+    lend(ANSWER, answer_len);
+    both("landfill_take", take);
+}
+
+/* Lengths of record, output and answer; 0 stands for the length that is swept. */
+static const size_t LENGTHS[6][3] = {{0, 48, 88}, {48, 0, 88}, {48, 48, 0}, {49, 0, 0}, {47, 48, 0}, {48, 0, 0}};
+
+static void all_takes(void)
+{
+    for (size_t swept = 0; swept <= 300; swept++)
+        for (unsigned i = 0; i < 18; i++) {
+            const size_t *length = LENGTHS[i % 6];
+            unsigned damaged = 10 * (i / 6);
+            struct series series = any_series(1200);
+            lend_ledger(series, damaged);
+            one_take(series, damaged, length[0] ? length[0] : swept, length[1] ? length[1] : swept, length[2] ? length[2] : swept);
+        }
+    for (int i = 0; i < 150000; i++) {
+        struct series series = any_series(i % 2 == 0 ? 1200 : 3);
+        lend_ledger(series, 20);
+        one_take(series, 50, 48, 48 + below(2), 88 + (size_t)i % 2);
+    }
+}
+
+/* Takes a site through 1200 records and past them, with offers that are refused in between. */
+static void one_history(struct series series)
+{
+    uint8_t image[136] = {0};
+    for (unsigned offer = 0; series.n < 1200 || offer % 8 != 0; offer++) {
+        memcpy(lend(LEDGER, 136), image, 136);
+        one_take(series, offer % 4 == 3 ? 100 : 0, 48, 48, 88);
+        memcpy(image, left(LEDGER), 136);
+        series.n = reference_read(image, 2);
+    }
+}
+
+/* ---- Runs and listings */
+
+/* Lends a file of so many bytes that goes on from a series, damaged at a place or two. */
+static void lend_records(struct series series, size_t length, unsigned damaged)
+{
+    static uint8_t file[1300 * 48];
+    size_t count = length / 48;
+    make_file(file, count + 1, series);
+    while (count > 0 && chance(damaged)) damage_record(file + 48 * below(count));
+    memcpy(lend(RECORDS, length), file, length);
+}
+
+static void one_run(struct series series, unsigned damaged, size_t length, size_t room)
+{
+    lend_ledger(series, damaged);
+    lend_records(series, length, damaged);
+    lend(OUT, room);
+    both("landfill_run", run);
+}
+
+static void all_runs(void)
+{
+    for (size_t length = 0; length <= 500; length++)
+        for (unsigned damaged = 0; damaged <= 30; damaged += 15) {
+            one_run(any_series(0), damaged, length, 600);
+            one_run(any_series(0), damaged, 480, length);
+            one_run(any_series(1200), damaged, length, length - length % 48 + 48 * (length % 2));
+        }
+    for (int i = 0; i < 15000; i++) {
+        size_t length = i % 4 == 0 ? below(600) : 48 * below(13), room = i % 5 == 0 ? below(700) : 624;
+        one_run(any_series(i % 3 == 0 ? 0 : 1200), 30, length, room);
+    }
+    for (uint64_t i = 0; i < 64; i++) {
+        struct series series = {i < 32 ? 0 : edge(0, 1200), 1 + i % 2, 1 + i / 2 % 4};
+        size_t length = edge(1195 * 48, 1205 * 48);
+        one_run(series, i % 16 < 8 ? 0 : 40, length, i % 3 == 0 ? edge(1100 * 48, 1210 * 48) : 1205 * 48);
+    }
+}
+
+static void one_listing(struct series series, unsigned damaged, size_t length, size_t room)
+{
+    lend_records(series, length, damaged);
+    lend(TEXT, room);
+    both("landfill_listing", listing);
+}
+
+static void all_listings(void)
+{
+    for (size_t length = 0; length <= 500; length++) {
+        size_t room = (length + 47) / 48 * 90;
+        for (unsigned damaged = 0; damaged <= 30; damaged += 15) {
+            one_listing(any_series(0), damaged, length, room);
+            one_listing(any_series(0), damaged, length, room + length);
+            one_listing(any_series(0), damaged, length, room - (room > 0));
+            one_listing(any_series(0), damaged, 192, length);
+        }
+    }
+    for (int i = 0; i < 8000; i++) {
+        size_t length = i % 4 == 0 ? below(600) : 48 * below(13);
+        one_listing(any_series(i % 5 == 0 ? 2 : 0), 30, length, 1170);
+    }
+    for (uint64_t i = 0; i < 32; i++) {
+        struct series series = {0, 1 + i % 2, 1 + i / 2 % 4};
+        one_listing(series, i < 16 ? 0 : 40, edge(1195 * 48, 1205 * 48), 1205 * 90);
+    }
+}
+
+int main(int count, char **words)
+{
+    uint64_t number = count > 1 ? strtoull(words[1], NULL, 0) : 1;
+    seed(number);
+    reference_start();
+    all_look_ups();
+    all_cells();
+    all_points();
+    all_totals();
+    all_takes();
+    for (uint64_t kind = 1; kind <= 2; kind++)
+        for (uint64_t climate = 1; climate <= 4; climate++) one_history((struct series){0, kind, climate});
+    all_runs();
+    all_listings();
+    printf("differential: %" PRIu64 " calls, 0 differences (seed %" PRIu64 ")\n", calls(), number);
+    return 0;
+}

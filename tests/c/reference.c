@@ -1,0 +1,236 @@
+/* Document 01's rules on values, one function for each. Letters are the document's. */
+#include "reference.h"
+
+#include <stdio.h>
+#include <stdlib.h>
+
+typedef unsigned __int128 wide;
+
+enum { TYPES = 8, RECORDS = 1200, BYTES = 48 };
+static const uint64_t MASS_LIMIT = 1000000000;
+static const uint64_t BILLION = 1000000000;
+
+/* ---- Waste types and their constants */
+
+/* Hundredths of a percent of wet weight, types 1 to 8. */
+static const uint64_t DOC[TYPES] = {4300, 4000, 1500, 2400, 2000, 0, 500, 900};
+
+/* Yearly rates in thousandths, climates 1 to 4; a group for each type. */
+static const uint16_t GROUP_A[4] = {40, 60, 45, 70};
+static const uint16_t GROUP_B[4] = {20, 30, 25, 35};
+static const uint16_t GROUP_C[4] = {50, 100, 65, 170};
+static const uint16_t GROUP_D[4] = {60, 185, 85, 400};
+static const uint16_t INERT[4] = {0, 0, 0, 0};
+static const uint16_t INDUSTRY[4] = {30, 30, 30, 30};
+static const uint16_t *const RATES[TYPES] = {GROUP_B, GROUP_A, GROUP_D, GROUP_A, GROUP_C, INERT, GROUP_D, INDUSTRY};
+
+/* Methane correction factor in percent, site classes 1 to 4. */
+static const uint64_t MCF[4] = {100, 50, 80, 40};
+
+/* ---- The decay table */
+
+/* A fraction that is not known exactly, but to lie from low to high, in parts of ONE. */
+struct enclosed {
+    wide low, high;
+};
+
+static const uint64_t GUARD = 1000000000000000000u; /* parts of a billionth */
+static uint32_t table[2][400];                      /* by kind, then by rate */
+
+/* Works out an entry: E(n) is the sum of (-x)^i / i! with x = rate / parts; D is 10^9 x E(15) rounded down, and
+ * 10^9 x E(14) must be below D + 1. Every term is enclosed, and so is the sum; the program stops where the enclosure
+ * leaves a doubt. */
+static uint32_t worked_out(uint16_t rate, uint32_t parts)
+{
+    const wide ONE = (wide)BILLION * GUARD;
+    struct enclosed term = {ONE, ONE}, added = {ONE, ONE}, taken = {0, 0};
+    wide high14 = 0;
+    for (uint32_t i = 1; i <= 15; i++) {
+        term.low = term.low * rate / ((wide)parts * i);
+        term.high = term.high * rate / ((wide)parts * i) + 1;
+        struct enclosed *side = i % 2 == 0 ? &added : &taken;
+        side->low += term.low;
+        side->high += term.high;
+        if (i == 14) high14 = added.high - taken.low;
+    }
+    wide D = (added.low - taken.high) / GUARD;
+    if (D != (added.high - taken.low) / GUARD || high14 >= (D + 1) * GUARD) {
+        fprintf(stderr, "reference: rate %d in %d parts is not decided\n", (int)rate, (int)parts);
+        exit(2);
+    }
+    return (uint32_t)D;
+}
+
+void reference_start(void)
+{
+    for (uint16_t rate = 1; rate <= 400; rate++) {
+        table[0][rate - 1] = worked_out(rate, 1000);
+        table[1][rate - 1] = worked_out(rate, 12000);
+    }
+}
+
+uint32_t reference_entry(uint8_t kind, uint16_t rate)
+{
+    if (kind < 1 || kind > 2 || rate < 1 || rate > 400) return 0;
+    return table[kind - 1][rate - 1];
+}
+
+/* ---- Little-endian numbers */
+
+uint64_t reference_read(const uint8_t *bytes, int count)
+{
+    uint64_t number = 0;
+    for (int i = count - 1; i >= 0; i--) number = number << 8 | bytes[i];
+    return number;
+}
+
+void reference_write(uint8_t *bytes, int count, uint64_t number)
+{
+    for (int i = 0; i < count; i++) bytes[i] = (uint8_t)(number >> 8 * i);
+}
+
+/* ---- One record */
+
+struct record {
+    uint64_t period, kind, climate, factor, OX, F, DOCf, class, GWP, f, zero, mass[TYPES];
+};
+
+static struct record fields(const uint8_t *bytes)
+{
+    struct record it = {
+        .period = reference_read(bytes, 2),
+        .kind = bytes[2],
+        .climate = bytes[3],
+        .factor = bytes[4],
+        .OX = bytes[5],
+        .F = bytes[6],
+        .DOCf = bytes[7],
+        .class = bytes[8],
+        .GWP = bytes[9],
+        .f = reference_read(bytes + 10, 2),
+        .zero = reference_read(bytes + 12, 4),
+    };
+    for (int t = 0; t < TYPES; t++) it.mass[t] = reference_read(bytes + 16 + 4 * t, 4);
+    return it;
+}
+
+/* ---- Refusal numbers */
+
+static bool between(uint64_t low, uint64_t number, uint64_t high)
+{
+    return low <= number && number <= high;
+}
+
+/* The most carbon in mg that n records can bring of the type at place t. */
+uint64_t reference_ceiling(uint64_t n, int t)
+{
+    return n * BILLION * DOC[t] * 100;
+}
+
+bool reference_is_sound(const struct reference_ledger *ledger)
+{
+    if (ledger == NULL || ledger->n > RECORDS) return false;
+    if (ledger->n == 0 && (ledger->kind != 0 || ledger->climate != 0)) return false;
+    if (ledger->n > 0 && !(between(1, ledger->kind, 2) && between(1, ledger->climate, 4))) return false;
+    for (int t = 0; t < TYPES; t++) {
+        if (ledger->T[t] > reference_ceiling(ledger->n, t)) return false;
+        if (ledger->R[t] > ledger->T[t]) return false;
+    }
+    return true;
+}
+
+static bool codes_are_wrong(const struct record *it)
+{
+    return !between(1, it->kind, 2) || !between(1, it->climate, 4) || !between(1, it->class, 4) || it->zero != 0;
+}
+
+static bool ranges_are_wrong(const struct record *it)
+{
+    return !between(1, it->factor, 100) || it->OX > 100 || it->F > 100 || it->DOCf > 100 ||
+           !between(1, it->GWP, 100) || it->f > 10000;
+}
+
+static bool a_mass_is_over(const struct record *it)
+{
+    for (int t = 0; t < TYPES; t++)
+        if (it->mass[t] > MASS_LIMIT) return true;
+    return false;
+}
+
+uint8_t reference_refusal(const struct reference_ledger *ledger, const uint8_t *record, size_t record_len, size_t room)
+{
+    if (record_len != BYTES) return 1;
+    if (room < BYTES) return 2;
+    if (!reference_is_sound(ledger)) return 3;
+    if (ledger->n == RECORDS) return 4;
+    struct record it = fields(record);
+    if (codes_are_wrong(&it)) return 5;
+    if (it.period != ledger->n + 1u) return 6;
+    if (ledger->n > 0 && (it.kind != ledger->kind || it.climate != ledger->climate)) return 7;
+    if (ranges_are_wrong(&it)) return 8;
+    if (a_mass_is_over(&it)) return 9;
+    return 0;
+}
+
+/* ---- One step */
+
+uint64_t reference_total(const uint64_t of_types[8])
+{
+    uint64_t total = 0;
+    for (int t = 0; t < TYPES; t++) total += of_types[t];
+    return total;
+}
+
+/* Brings a type's deposit in, decays its stock, and gives the release G. */
+static uint64_t decay(uint64_t *T, uint64_t *R, uint64_t deposit, uint32_t D)
+{
+    *T += deposit;
+    uint64_t H = *R + deposit;
+    *R = (uint64_t)((wide)H * D / BILLION);
+    return H - *R;
+}
+
+static uint64_t figure_of(const struct record *it, uint64_t x0)
+{
+    wide x1 = (wide)x0 * it->factor * (10000 - it->f) / 1000000;
+    wide x2 = x1 * (100 - it->OX) * it->F * it->DOCf * MCF[it->class - 1] / 100000000;
+    return (uint64_t)(x2 * 4 * it->GWP / 3000);
+}
+
+static uint64_t bound_of(const struct record *it, const struct reference_ledger *after)
+{
+    wide B = 0;
+    for (int t = 0; t < TYPES; t++)
+        if (after->T[t] > 0) B += after->n + 1 + (wide)after->n * after->T[t] / BILLION;
+    return (uint64_t)(3 + B * 4 * it->GWP / 3000);
+}
+
+static void put_output(uint8_t *out, const struct reference_ledger *after, const struct reference_answer *answer)
+{
+    reference_write(out, 2, after->n);
+    reference_write(out + 2, 1, after->kind);
+    reference_write(out + 3, 1, after->climate);
+    reference_write(out + 4, 4, 0);
+    reference_write(out + 8, 8, answer->x0);
+    reference_write(out + 16, 8, answer->figure);
+    reference_write(out + 24, 8, answer->bound);
+    reference_write(out + 32, 8, reference_total(after->R));
+    reference_write(out + 40, 8, reference_total(after->T));
+}
+
+void reference_accept(struct reference_ledger *ledger, const uint8_t *record, uint8_t *out, struct reference_answer *answer)
+{
+    struct record it = fields(record);
+    ledger->n += 1;
+    ledger->kind = (uint8_t)it.kind;
+    ledger->climate = (uint8_t)it.climate;
+    for (int t = 0; t < TYPES; t++) {
+        uint64_t deposit = it.mass[t] * DOC[t] * 100;
+        uint32_t D = reference_entry(ledger->kind, RATES[t][ledger->climate - 1]);
+        answer->releases[t] = decay(&ledger->T[t], &ledger->R[t], deposit, D);
+    }
+    answer->x0 = reference_total(answer->releases);
+    answer->figure = figure_of(&it, answer->x0);
+    answer->bound = bound_of(&it, ledger);
+    put_output(out, ledger, answer);
+}

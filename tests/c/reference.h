@@ -1,0 +1,47 @@
+/* A second landfill ledger, in plain C with 128-bit numbers, written from document 01 alone: the peer that the library
+ * is held against. Every name of it starts with reference_, so that both link into one program. */
+#ifndef REFERENCE_H
+#define REFERENCE_H
+
+#include <stdbool.h>
+#include <stddef.h>
+#include <stdint.h>
+
+/* The number n of accepted records, their kind and climate, and for each type the carbon brought in (T) and the carbon
+ * left (R), in mg. Place 0 is type 1. */
+struct reference_ledger {
+    uint16_t n;
+    uint8_t kind, climate;
+    uint64_t T[8], R[8];
+};
+
+/* The eight releases and x0 in mg, figure and bound in grams CO2e. */
+struct reference_answer {
+    uint64_t releases[8], x0, figure, bound;
+};
+
+/* Works the decay table out; to be called once, before all else. */
+void reference_start(void);
+
+/* The rules, on values (reference.c). A ledger that is NULL stands for an image that is no ledger at all. */
+uint64_t reference_ceiling(uint64_t n, int t);
+bool reference_is_sound(const struct reference_ledger *ledger);
+uint8_t reference_refusal(const struct reference_ledger *ledger, const uint8_t *record, size_t record_len, size_t room);
+void reference_accept(struct reference_ledger *ledger, const uint8_t *record, uint8_t *out, struct reference_answer *answer);
+uint64_t reference_total(const uint64_t of_types[8]);
+uint64_t reference_read(const uint8_t *bytes, int count);
+void reference_write(uint8_t *bytes, int count, uint64_t number);
+
+/* The entries of landfill.h, with the same meaning (entries.c). */
+uint8_t reference_fresh(uint8_t *ledger, size_t ledger_len);
+uint8_t reference_take(uint8_t *ledger, size_t ledger_len, const uint8_t *record, size_t record_len, uint8_t *out,
+                       size_t out_len, uint8_t *answer, size_t answer_len);
+uint8_t reference_run(uint8_t *ledger, size_t ledger_len, const uint8_t *records, size_t records_len, uint8_t *out,
+                      size_t out_len, uint64_t *accepted);
+uint8_t reference_totals(const uint8_t *ledger, size_t ledger_len, uint64_t *stock, uint64_t *brought);
+uint32_t reference_entry(uint8_t kind, uint16_t rate);
+uint8_t reference_cell(uint8_t filled, double kg, uint32_t *mass);
+uint8_t reference_point(uint64_t figure, uint64_t bound, double *at, double *low, double *high);
+uint8_t reference_listing(const uint8_t *records, size_t records_len, uint8_t *text, size_t text_len, uint64_t *length);
+
+#endif

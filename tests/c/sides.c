@@ -1,0 +1,168 @@
+/* The two sides of the differential test. */
+#include "sides.h"
+
+#include "inputs.h"
+#include "landfill.h"
+#include "reference.h"
+
+#include <inttypes.h>
+#include <stdio.h>
+#include <stdlib.h>
+#include <string.h>
+
+enum { PATTERN = 0xA5 };
+
+static const struct entries LIBRARY = {landfill_fresh, landfill_take, landfill_run,   landfill_totals,
+                                       landfill_entry, landfill_cell, landfill_point, landfill_listing};
+static const struct entries REFERENCE = {reference_fresh, reference_take, reference_run,   reference_totals,
+                                         reference_entry, reference_cell, reference_point, reference_listing};
+static const char *const NAMES[PLACES] = {"ledger", "records", "out", "answer", "text"};
+
+struct given given;
+static struct side before, library, reference;
+static struct {
+    int lent;
+    size_t start, length;
+} spans[PLACES];
+static uint64_t compared;
+
+uint8_t *lend(enum place place, size_t length)
+{
+    if (length > LONGEST) exit(2);
+    spans[place].lent = 1;
+    spans[place].start = ZONE + below(8);
+    spans[place].length = length;
+    memset(before.rooms[place], PATTERN, spans[place].start);
+    memset(before.rooms[place] + spans[place].start + length, PATTERN, ZONE);
+    random_bytes(at(&before, place), length);
+    return at(&before, place);
+}
+
+uint8_t *at(struct side *side, enum place place)
+{
+    return side->rooms[place] + spans[place].start;
+}
+
+size_t length_of(enum place place)
+{
+    return spans[place].length;
+}
+
+const uint8_t *left(enum place place)
+{
+    return at(&library, place);
+}
+
+uint64_t calls(void)
+{
+    return compared;
+}
+
+/* The bytes of a room that a call can reach and more: the buffer with both its red zones. */
+static size_t used(enum place place)
+{
+    return spans[place].start + spans[place].length + ZONE;
+}
+
+static int differs(const struct side *one, const struct side *other, enum place place)
+{
+    return spans[place].lent && memcmp(one->rooms[place], other->rooms[place], used(place)) != 0;
+}
+
+static int is_zone(const struct side *side, enum place place, size_t from, size_t to)
+{
+    for (size_t i = from; i < to; i++)
+        if (side->rooms[place][i] != PATTERN) return 0;
+    return 1;
+}
+
+static int zones_stand(const struct side *side, enum place place)
+{
+    size_t start = spans[place].start, end = start + spans[place].length;
+    return !spans[place].lent || (is_zone(side, place, 0, start) && is_zone(side, place, end, end + ZONE));
+}
+
+static int numbers_differ(void)
+{
+    return library.answer != reference.answer || memcmp(&library.numbers, &reference.numbers, sizeof library.numbers) != 0;
+}
+
+/* In rows of 48, as records stand. */
+static void print_bytes(const char *title, const struct side *side, enum place place)
+{
+    size_t length = spans[place].length;
+    const uint8_t *bytes = side->rooms[place] + spans[place].start;
+    printf("  %s%s\n", title, zones_stand(side, place) ? "" : ", a red zone written");
+    for (size_t i = 0; i < length; i++)
+        printf("%s%02x%s", i % 48 == 0 ? "    " : " ", bytes[i], i % 48 == 47 || i + 1 == length ? "\n" : "");
+}
+
+/* Places before 0 and from the length on are red zones. */
+static void print_first(enum place place)
+{
+    for (size_t i = 0; i < used(place); i++) {
+        uint8_t one = library.rooms[place][i], other = reference.rooms[place][i];
+        if (one == other) continue;
+        ptrdiff_t from_start = (ptrdiff_t)(i - spans[place].start);
+        printf("first at place %td of %s: library %02x, reference %02x\n", from_start, NAMES[place], one, other);
+        return;
+    }
+}
+
+static void print_numbers(const char *title, const struct side *side)
+{
+    const struct numbers *it = &side->numbers;
+    uint64_t real[7];
+    memcpy(real, it->real, sizeof real);
+    printf("%s: answer %" PRIu64 "; whole", title, side->answer);
+    for (int i = 0; i < 5; i++) printf(" %" PRIx64, it->whole[i]);
+    printf("; real");
+    for (int i = 0; i < 7; i++) printf(" %" PRIx64, real[i]);
+    printf("; mass %" PRIx32 " %" PRIx32 " %" PRIx32 "\n", it->mass[0], it->mass[1], it->mass[2]);
+}
+
+static void print_difference(const char *name)
+{
+    uint64_t kg;
+    memcpy(&kg, &given.kg, sizeof kg);
+    printf("difference at call %" PRIu64 ", %s\n", compared, name);
+    printf("by value, where the entry takes it: kind %u, rate %u, filled %u, kg %a (bits %" PRIx64 ")", given.kind, given.rate,
+           given.filled, given.kg, kg);
+    printf(", figure %" PRIu64 ", bound %" PRIu64 "\n", given.figure, given.bound);
+    print_numbers("library  ", &library);
+    print_numbers("reference", &reference);
+    for (enum place place = 0; place < PLACES; place++)
+        if (spans[place].lent) print_first(place);
+    for (enum place place = 0; place < PLACES; place++) {
+        if (!spans[place].lent) continue;
+        printf("%s, %zu bytes\n", NAMES[place], spans[place].length);
+        print_bytes("before", &before, place);
+        if (differs(&library, &before, place)) print_bytes("after the library", &library, place);
+        if (differs(&reference, &before, place)) print_bytes("after the reference", &reference, place);
+    }
+}
+
+static void share(struct side *side)
+{
+    memset(&side->numbers, PATTERN, sizeof side->numbers);
+    for (enum place place = 0; place < PLACES; place++)
+        if (spans[place].lent) memcpy(side->rooms[place], before.rooms[place], used(place));
+}
+
+void both(const char *name, call *make)
+{
+    compared++;
+    share(&library);
+    share(&reference);
+    make(&LIBRARY, &library);
+    make(&REFERENCE, &reference);
+    int wrong = numbers_differ();
+    for (enum place place = 0; place < PLACES; place++)
+        wrong |= differs(&library, &reference, place) || !zones_stand(&library, place);
+    if (wrong) {
+        print_difference(name);
+        printf("differential: %" PRIu64 " calls, 1 difference\n", compared);
+        exit(1);
+    }
+    for (enum place place = 0; place < PLACES; place++) spans[place].lent = 0;
+}

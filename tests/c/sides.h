@@ -1,0 +1,64 @@
+/* The two sides of the differential test: the library and the reference get equal copies of every buffer, each between
+ * red zones of a fixed pattern, and must leave equal bytes behind. */
+#ifndef SIDES_H
+#define SIDES_H
+
+#include <stddef.h>
+#include <stdint.h>
+
+enum place { LEDGER, RECORDS, OUT, ANSWER, TEXT, PLACES };
+enum { ZONE = 64, LONGEST = 131072, ROOM = ZONE + 8 + LONGEST + ZONE };
+
+/* The numbers that an entry writes behind pointers stand at the odd places; the even ones are red zones. */
+struct numbers {
+    uint64_t whole[5];
+    double real[7];
+    uint32_t mass[3];
+};
+
+struct side {
+    uint8_t rooms[PLACES][ROOM];
+    struct numbers numbers;
+    uint64_t answer;
+};
+
+/* What is handed over by value. */
+struct given {
+    uint8_t kind, filled;
+    uint16_t rate;
+    double kg;
+    uint64_t figure, bound;
+};
+
+/* The entries of landfill.h, of either side. */
+struct entries {
+    uint8_t (*fresh)(uint8_t *, size_t);
+    uint8_t (*take)(uint8_t *, size_t, const uint8_t *, size_t, uint8_t *, size_t, uint8_t *, size_t);
+    uint8_t (*run)(uint8_t *, size_t, const uint8_t *, size_t, uint8_t *, size_t, uint64_t *);
+    uint8_t (*totals)(const uint8_t *, size_t, uint64_t *, uint64_t *);
+    uint32_t (*entry)(uint8_t, uint16_t);
+    uint8_t (*cell)(uint8_t, double, uint32_t *);
+    uint8_t (*point)(uint64_t, uint64_t, double *, double *, double *);
+    uint8_t (*listing)(const uint8_t *, size_t, uint8_t *, size_t, uint64_t *);
+};
+
+typedef void call(const struct entries *entries, struct side *side);
+
+extern struct given given;
+
+/* Lends a buffer of so many random bytes for the next call, and gives its bytes to be filled. */
+uint8_t *lend(enum place place, size_t length);
+
+/* A lent buffer's bytes as one side has them, its length, and its bytes after the last call. */
+uint8_t *at(struct side *side, enum place place);
+size_t length_of(enum place place);
+const uint8_t *left(enum place place);
+
+/* Makes the call on both sides and compares; prints the difference in full and ends the program where there is one.
+ * After it no buffer is lent. */
+void both(const char *name, call *make);
+
+/* The number of calls compared. */
+uint64_t calls(void);
+
+#endif

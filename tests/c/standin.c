@@ -1,0 +1,50 @@
+/* The entries of landfill.h by the reference, so that the tests themselves can be tried without the library. */
+#include "landfill.h"
+#include "reference.h"
+
+__attribute__((constructor)) static void start(void)
+{
+    reference_start();
+}
+
+uint8_t landfill_fresh(uint8_t *ledger, size_t ledger_len)
+{
+    return reference_fresh(ledger, ledger_len);
+}
+
+uint8_t landfill_take(uint8_t *ledger, size_t ledger_len, const uint8_t *record, size_t record_len, uint8_t *out,
+                      size_t out_len, uint8_t *answer, size_t answer_len)
+{
+    return reference_take(ledger, ledger_len, record, record_len, out, out_len, answer, answer_len);
+}
+
+uint8_t landfill_run(uint8_t *ledger, size_t ledger_len, const uint8_t *records, size_t records_len, uint8_t *out,
+                     size_t out_len, uint64_t *accepted)
+{
+    return reference_run(ledger, ledger_len, records, records_len, out, out_len, accepted);
+}
+
+uint8_t landfill_totals(const uint8_t *ledger, size_t ledger_len, uint64_t *stock, uint64_t *brought)
+{
+    return reference_totals(ledger, ledger_len, stock, brought);
+}
+
+uint32_t landfill_entry(uint8_t kind, uint16_t rate)
+{
+    return reference_entry(kind, rate);
+}
+
+uint8_t landfill_cell(uint8_t filled, double kg, uint32_t *mass)
+{
+    return reference_cell(filled, kg, mass);
+}
+
+uint8_t landfill_point(uint64_t figure, uint64_t bound, double *at, double *low, double *high)
+{
+    return reference_point(figure, bound, at, low, high);
+}
+
+uint8_t landfill_listing(const uint8_t *records, size_t records_len, uint8_t *text, size_t text_len, uint64_t *length)
+{
+    return reference_listing(records, records_len, text, text_len, length);
+}
