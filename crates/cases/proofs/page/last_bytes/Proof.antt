@@ -1,0 +1,33 @@
+-- The index is within the bytes at each turn; the page keeps its length.
+use mathlib.Core.Path.{_≡_}
+use Prim.Native.Nat.{_-_}
+use borrow.Author.Needs.{needs}
+use lib.ListN.{length}
+use Rattle.cases.proofs.page.last_bytes.Statement.{statement}
+use Rattle.cases.proofs.page.last_bytes.Tie as tie
+
+abbrev Inv-loop : tie.InvT-loop
+Inv-loop page₀ at bytes next₀ i₀ page next i = length page ≡ length page₀
+
+abbrev μ-loop : tie.MeasureT-loop
+μ-loop page₀ at bytes next₀ i₀ page next i = length bytes - i
+
+pub last-bytes-spec : {M : Type 1} → statement M
+last-bytes-spec =
+    tie.close
+    (tie.spec
+    Inv-loop
+    μ-loop
+    (λ c. search needs)
+    (λ c κs. search needs)
+    (λ c. search needs)
+    (λ c. search needs)
+    (λ c. search needs)
+    (λ c. search needs)
+    (λ c κs. search needs)
+    (λ c. search needs)
+    (λ c. search needs)
+    (λ c. search needs)
+    (λ c κs. search needs)
+    (λ c. search needs)
+    (λ c. search needs))

@@ -1,0 +1,69 @@
+// The lines of the spreadsheet's cases: cell and chart point.
+ghost use Prim.Native.Nat.{_≤_};
+ghost use lib.Dec.{T};
+ghost use mathlib.Core.Bool.{not};
+ghost use lib.Ieee.{isNan};
+ghost use lib.ListN.{length};
+use crate::page;
+use door::Cell;
+
+// The bits of an infinity, and the sign's.
+const INFINITY: u64 = 0x7ff0_0000_0000_0000;
+
+const SIGN: u64 = 0x8000_0000_0000_0000;
+
+// Answers the float of a pattern; each pattern of a NaN gives the same NaN.
+fn float_of(pattern: u64) -> f64 {
+    if INFINITY < pattern % SIGN {
+        return 0.0 / 0.0;
+    }
+    f64::from_bits(pattern)
+}
+
+// Answers the cell of a payload.
+fn read_cell(payload: &[u8]) -> Cell
+    requires { ⌜ 9 ≤ length (now payload) ⌝ }
+{
+    if payload[0] == 0 {
+        return Cell::Empty;
+    }
+    Cell::Number(float_of(numbers::read_u64(payload, 1)))
+}
+
+// Prints the answer to a cell.
+pub(crate) fn cell(payload: &[u8], page: &mut [u8], at: usize) -> usize
+    requires { ⌜ 9 ≤ length (now payload) ⌝ }
+{
+    let answer = door::weigh(read_cell(payload)).numbers();
+    let mass_at = page::number(page, at, answer.refusal as u64, b' ');
+    page::number(page, mass_at, answer.mass as u64, b'\n')
+}
+
+// Puts the bits of a float and the byte that follows them.
+fn float(page: &mut [u8], at: usize, value: f64, follows: u8) -> usize
+    requires { ⌜ T (not (isNan value)) ⌝ }
+{
+    page::bits(page, at, f64::to_bits(value), follows)
+}
+
+// Prints the point of a figure and its bound.
+fn charted(figure: u64, bound: u64, page: &mut [u8], at: usize) -> usize {
+    let answer = door::chart(figure, bound);
+    let point = answer.point;
+    let figure_at = page::number(page, at, answer.refusal as u64, b' ');
+    let low_at = float(page, figure_at, point.figure, b' ');
+    let high_at = float(page, low_at, point.low, b' ');
+    float(page, high_at, point.high, b'\n')
+}
+
+// Prints a chart point.
+pub(crate) fn point(payload: &[u8], page: &mut [u8], at: usize) -> usize
+    requires { ⌜ 16 ≤ length (now payload) ⌝ }
+{
+    charted(
+        numbers::read_u64(payload, 0),
+        numbers::read_u64(payload, 8),
+        page,
+        at,
+    )
+}

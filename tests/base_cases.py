@@ -1,0 +1,212 @@
+"""The base cases: look-ups, steps, runs and listings, each built for the answer that document 01 gives it.
+
+A case built for a refusal is an error here where the reference answers another.
+"""
+from itertools import combinations
+
+import cases
+import reference
+from cases import case
+from faults import FAULTS, Offer, applied, of_field
+from histories import KINDS_AND_CLIMATES, PLACES, PLAIN, ceilings, damaged, greatest_record, only, random_file
+from histories import random_ledger, random_record, replaced
+from reference import BYTES, FRESH, MASS_LIMIT, RECORDS, Ledger, little, write_record
+
+
+def step_case(ledger, data, room=BYTES, expect=None, ignored=bytes(4)):
+    """One step; expect is the refusal that it is built for."""
+    found = reference.refusal_of(ledger, data, room)
+    if expect not in (None, found):
+        raise SystemExit(f"step built for {expect}, found {found}: {ledger} room {room} {data.hex()}")
+    return case("s", cases.image(ledger, ignored) + little([(room, 2)]) + data)
+
+
+def run_case(ledger, data, room, expect=None):
+    """A whole run; expect is the accepted count and the refusal that it is built for."""
+    found = reference.run(ledger, data, bytes(min(room, cases.LONGEST)))[1:3]
+    if expect not in (None, found):
+        raise SystemExit(f"run built for {expect}, found {found}: {ledger} room {room}")
+    return case("r", cases.image(ledger) + little([(room, 4)]) + data)
+
+
+def offer_case(offer, expect):
+    return step_case(offer.ledger, offer.data(), offer.room, expect)
+
+
+def fair_offer(rng):
+    """An offer that is accepted, with n above 0."""
+    kind, climate = rng.choice(KINDS_AND_CLIMATES)
+    ledger = random_ledger(rng, kind, climate)
+    return Offer(ledger, random_record(rng, ledger.n, kind, climate))
+
+
+def look_ups(rng):
+    asked = [(kind, rate) for kind in (1, 2) for rate in range(1, 401)]
+    asked += [(kind, rate) for kind in (0, 1, 2, 3, 255) for rate in (0, 1, 400, 401, 65535)]
+    asked += [(rng.choice((1, 2)), rate) for rate in (512, 657, 65136, *(rng.randrange(65536) for _ in range(20)))]
+    asked += [(rng.randrange(256), rng.randint(1, 400)) for _ in range(20)]
+    yield from (case("d", little([(kind, 1), (rate, 2)])) for kind, rate in asked)
+
+
+def worked_figures():
+    """Document 01's figures P6 to P10, its list of what is run only, and its listing."""
+    for place, climate, kind in ((3, 4, 1), (1, 1, 1), (2, 2, 1), (3, 4, 2), (6, 1, 1)):
+        first = PLAIN._replace(kind=kind, climate=climate, masses=only(place, 1))
+        yield step_case(FRESH, write_record(first), expect=0)
+    for place in range(1, 9):
+        yield step_case(FRESH, write_record(PLAIN._replace(masses=only(place, MASS_LIMIT))), expect=0)
+        yield step_case(FRESH, write_record(PLAIN._replace(masses=only(place, MASS_LIMIT + 1))), expect=9)
+    yield step_case(FRESH, write_record(PLAIN._replace(factor=0)), expect=8)
+    yield step_case(FRESH, write_record(PLAIN._replace(f=10000, masses=(MASS_LIMIT,) * 8)), expect=0)
+    yield step_case(FRESH, write_record(PLAIN._replace(period=0)), expect=6)
+    yield step_case(Ledger(1199, 1, 4), write_record(PLAIN._replace(period=1200)), expect=0)
+    yield step_case(Ledger(1200, 1, 4), write_record(PLAIN._replace(period=1201)), expect=4)
+    sample = [PLAIN._replace(masses=only(3, 1000)), PLAIN._replace(period=2), PLAIN._replace(period=5)]
+    yield case("l", b"".join(map(write_record, sample)))
+    yield case("l", b"")
+
+
+def steps_at_fault(rng):
+    """Each fault alone; a fault of each pair of fields, the lower number winning; one of each number from each on."""
+    for fault in FAULTS:
+        yield offer_case(applied(fair_offer(rng), [fault]), fault.number)
+    fields = dict.fromkeys((fault.number, fault.field) for fault in FAULTS)
+    for one, other in combinations(fields, 2):
+        if one[0] != other[0] and one[1] != other[1]:
+            pair = rng.choice(of_field(*one)), rng.choice(of_field(*other))
+            yield offer_case(applied(fair_offer(rng), pair), one[0])
+    each = "length", "room", "R", "n", "site_class", "period", "kind", "GWP", "masses"
+    for least in range(1, 10):
+        rest = [rng.choice(of_field(number, field)) for number, field in enumerate(each, 1) if number >= least]
+        yield offer_case(applied(fair_offer(rng), rest), least)
+
+
+def steps_at_limits(rng):
+    """Records and ledgers at every limit that is still allowed."""
+    middle = Ledger(7, 1, 3, ceilings(1), ceilings(1))
+    record = PLAIN._replace(period=8, climate=3, masses=(1000, 0, 7, 0, 0, 5, 0, 1))
+    limits = {
+        "factor": (1, 100),
+        "OX": (0, 100),
+        "F": (0, 100),
+        "DOCf": (0, 100),
+        "GWP": (1, 100),
+        "f": (0, 9999, 10000),
+        "site_class": reference.CLASSES,
+        "masses": [only(place, kg) for place in range(1, 9) for kg in (0, 1, MASS_LIMIT)],
+    }
+    offers = [(middle, record._replace(**{field: value})) for field, values in limits.items() for value in values]
+    for j in PLACES:
+        full = middle._replace(T=replaced(middle.T, j, ceilings(7)[j]))
+        offers += [(full, record), (full._replace(R=full.T), record), (full._replace(R=replaced(full.R, j, 0)), record)]
+    for kind, climate in KINDS_AND_CLIMATES:
+        offers += [(FRESH, PLAIN._replace(kind=kind, climate=climate))]
+        for n in (1, 1199):
+            offers += [(Ledger(n, kind, climate, ceilings(n), ceilings(n)), greatest_record(n, kind, climate))]
+    for ledger, record in offers:
+        yield step_case(ledger, write_record(record), expect=0)
+    for room in (49, 96, 300):
+        yield offer_case(fair_offer(rng)._replace(room=room), 0)
+
+
+def steps_at_random(rng):
+    """Accepted ones, ones with a byte changed in image or record, and arbitrary images."""
+    for kind, climate in KINDS_AND_CLIMATES * 10:
+        ledger = random_ledger(rng, kind, climate)
+        record = random_record(rng, ledger.n, kind, climate)
+        yield step_case(ledger, write_record(record), expect=0, ignored=rng.randbytes(4))
+    for _ in range(60):
+        offer = fair_offer(rng)
+        data = bytearray(cases.image(offer.ledger) + offer.data())
+        data[rng.randrange(len(data))] = rng.randrange(256)
+        room = rng.choice((47, 48, 48, 48, 49))
+        yield step_case(cases.read_image(data), bytes(data[cases.IMAGE :]), room)
+    for _ in range(60):
+        ledger = arbitrary_ledger(rng)
+        follower = random_record(rng, ledger.n % 1200, max(ledger.kind, 1), max(ledger.climate, 1))
+        data = rng.choice((rng.randbytes(BYTES), write_record(follower)))
+        yield step_case(ledger, data, ignored=rng.randbytes(4))
+
+
+def arbitrary_ledger(rng):
+    """The ledger of any bytes, or one whose head is near its codes."""
+    head = little([(rng.choice((0, 1, 2, 1199, 1200, 1201)), 2), (rng.randint(0, 3), 1), (rng.randint(0, 5), 1)])
+    carbon = rng.choice((bytes(128), bytes(64) + rng.randbytes(64), rng.randbytes(128)))
+    return cases.read_image(rng.choice((rng.randbytes(8), head + bytes(4))) + carbon)
+
+
+def runs_by_rule(rng):
+    """No bytes, room that ends, bytes left over, each fault of a record, and the last records that a ledger takes."""
+    unsound = Ledger(1, 1, 1, (0,) * 8, only(1, 1))
+    for ledger in (FRESH, random_ledger(rng, 1, 2), unsound, Ledger(65535, 255, 255, ceilings(9), ceilings(9))):
+        yield run_case(ledger, b"", 0, (0, 0))
+        yield run_case(ledger, b"", 50, (0, 0))
+    three = random_file(rng, 0, 2, 3, 3)
+    for room in (0, 47, 48, 95, 96, 143):
+        yield run_case(FRESH, three, room, (room // BYTES, 2))
+        yield run_case(FRESH, three + b"\0", room, (room // BYTES, 2))
+    for room in (144, 191, 192):
+        yield run_case(FRESH, three, room, (3, 0))
+        yield run_case(FRESH, three + b"\0", room, (3, 1))
+    for length in (1, 47):
+        yield run_case(FRESH, three[:length], 0, (0, 1))
+        yield run_case(FRESH, three[: BYTES + length], BYTES, (1, 1))
+    yield run_case(unsound, three, 144, (0, 3))
+    yield run_case(unsound, three, 47, (0, 2))
+    for fault in FAULTS:
+        if fault.number >= 5:
+            yield fault_after_one(rng, fault)
+    for kind, climate in KINDS_AND_CLIMATES:
+        ledger = random_ledger(rng, kind, climate, 1197)
+        yield run_case(ledger, random_file(rng, 1197, kind, climate, 3), 144, (3, 0))
+        yield run_case(ledger, random_file(rng, 1197, kind, climate, 5), 240, (3, 4))
+    yield run_case(FRESH, random_file(rng, 0, 1, 2, RECORDS + 1), 2**32 - 1, (RECORDS, 4))
+    greatest = [greatest_record(n, 2, 4) for n in range(RECORDS)]
+    yield run_case(FRESH, b"".join(map(write_record, greatest)), BYTES * RECORDS, (RECORDS, 0))
+
+
+def fault_after_one(rng, fault):
+    """A run of a record that is accepted, one at fault, and one more that is not reached."""
+    first = fair_offer(rng)
+    after, _ = reference.take(first.ledger, first.record)
+    second = applied(Offer(after, first.record._replace(period=after.n + 1)), [fault])
+    third = first.record._replace(period=after.n + 2)
+    return run_case(first.ledger, first.data() + second.data() + write_record(third), 150, (1, fault.number))
+
+
+def runs_at_random(rng):
+    """Runs with and without damage, of both kinds and in all climates, from fresh ledgers and from others."""
+    for kind, climate in KINDS_AND_CLIMATES * 16:
+        ledger = rng.choice((FRESH, random_ledger(rng, kind, climate)))
+        records = rng.choice((1, 2, 3, 4, 5, 8, 13))
+        room = BYTES * records + rng.choice((0, 1, 20))
+        yield run_case(ledger, random_file(rng, ledger.n, kind, climate, records), room, (records, 0))
+    for kind, climate in KINDS_AND_CLIMATES * 20:
+        ledger = rng.choice((FRESH, random_ledger(rng, kind, climate)))
+        records = rng.randint(1, 6)
+        room = rng.choice((BYTES * records, BYTES * records + 70, rng.randint(0, BYTES * records)))
+        yield run_case(ledger, damaged(rng, random_file(rng, ledger.n, kind, climate, records)), room)
+    for _ in range(20):
+        ledger = arbitrary_ledger(rng)
+        yield run_case(ledger, random_file(rng, ledger.n % 1200, 1, 1, 2), 100)
+
+
+def listings(rng):
+    for kind, climate in KINDS_AND_CLIMATES * 4:
+        data = random_file(rng, 0, kind, climate, rng.randint(1, 8))
+        yield case("l", data)
+        yield case("l", damaged(rng, data))
+    yield case("l", b"\1")
+    yield case("l", rng.randbytes(100))
+    yield case("l", b"".join(write_record(greatest_record(n, 1, 4)) for n in range(RECORDS + 1)))
+
+
+def base(rng):
+    yield from look_ups(rng)
+    yield from worked_figures()
+    yield from steps_at_fault(rng)
+    yield from steps_at_limits(rng)
+    yield from steps_at_random(rng)
+    yield from runs_by_rule(rng)
+    yield from runs_at_random(rng)
+    yield from listings(rng)

@@ -1,0 +1,120 @@
+#!/usr/bin/env python3
+"""What the program `cases` should print, worked out by the reference: docs/CASES.md in Python.
+
+  cases.py < cases.bin
+"""
+import sys
+from collections.abc import Callable
+from typing import NamedTuple
+
+import reference
+from reference import Ledger, number
+
+LONGEST = 65536  # bytes of a payload, and of an output buffer
+IMAGE = 136  # bytes of a ledger image
+
+
+def image(ledger, ignored=bytes(4)):
+    """The 136 bytes of a ledger; the ignored ones stand between climate and T."""
+    head = reference.little([(ledger.n, 2), (ledger.kind, 1), (ledger.climate, 1)])
+    return head + ignored + reference.little((value, 8) for value in ledger.T + ledger.R)
+
+
+def read_image(data):
+    """The ledger of 136 bytes."""
+    carbon = [number(data, at, 8) for at in range(8, IMAGE, 8)]
+    return Ledger(number(data, 0, 2), data[2], data[3], tuple(carbon[:8]), tuple(carbon[8:]))
+
+
+def case(letter, payload):
+    """The bytes of a case."""
+    return letter.encode() + reference.little([(len(payload), 4)]) + payload
+
+
+def decay_line(payload):
+    return str(reference.decay(payload[0], number(payload, 1, 2)))
+
+
+def step_line(payload):
+    lent = b"\xa5" * number(payload, 136, 2)
+    answer = reference.step(read_image(payload), payload[138:], lent)
+    numbers = [answer.refusal, *fields(answer.ledger), *answer.releases, answer.x0, answer.figure, answer.bound]
+    return spaced(numbers) + " " + hexed(answer.output)
+
+
+def run_line(payload):
+    lent = b"\xa5" * min(number(payload, 136, 4), LONGEST)
+    answer = reference.run(read_image(payload), payload[140:], lent)
+    return spaced([answer.accepted, answer.refusal, *fields(answer.ledger)]) + " " + hexed(answer.output)
+
+
+def listing_line(payload):
+    return hexed(reference.listing(payload).encode())
+
+
+def cell_line(payload):
+    return spaced(reference.cell(number(payload, 1, 8) if payload[0] else None))
+
+
+def point_line(payload):
+    refusal, *floats = reference.point(number(payload, 0, 8), number(payload, 8, 8))
+    return " ".join([str(refusal)] + [f"{bits:016x}" for bits in floats])
+
+
+def fields(ledger):
+    return [ledger.n, ledger.kind, ledger.climate, *ledger.T, *ledger.R]
+
+
+def spaced(numbers):
+    return " ".join(str(value) for value in numbers)
+
+
+def hexed(data):
+    return data.hex() or "-"
+
+
+class Kind(NamedTuple):
+    line: Callable
+    least: int  # bytes of the payload
+    most: int
+
+
+KINDS = {
+    "d": Kind(decay_line, 3, 3),
+    "s": Kind(step_line, 138, LONGEST),
+    "r": Kind(run_line, 140, LONGEST),
+    "l": Kind(listing_line, 0, LONGEST),
+    "c": Kind(cell_line, 9, 9),
+    "p": Kind(point_line, 16, 16),
+}
+
+
+def lines(stream):
+    """The line of each case in the stream's bytes, up to the first that cannot be read."""
+    at = 0
+    while at < len(stream):
+        header, at = stream[at : at + 5], at + 5
+        if len(header) < 5:
+            yield "truncated"
+            return
+        kind, length = KINDS.get(chr(header[0])), number(header, 1, 4)
+        if kind is None:
+            yield "unknown kind"
+            return
+        if not kind.least <= length <= kind.most:
+            yield "bad length"
+            return
+        payload, at = stream[at : at + length], at + length
+        if len(payload) < length:
+            yield "truncated"
+            return
+        yield kind.line(payload)
+
+
+def printed(stream):
+    """All that the program prints for a stream."""
+    return "".join(line + "\n" for line in lines(stream))
+
+
+if __name__ == "__main__":
+    sys.stdout.write(printed(sys.stdin.buffer.read()))

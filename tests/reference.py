@@ -1,0 +1,299 @@
+"""Document 01 worked out a second time, in whole numbers and fractions, to run the Rattle code against.
+
+One function for each rule, in the document's order and with its letters. Everything is a value: an output
+buffer goes in as bytes and comes back as bytes. Type j stands at place j - 1 of every list of eight.
+"""
+import os
+import sys
+from fractions import Fraction
+from functools import cache
+from typing import NamedTuple
+
+sys.path.insert(0, os.path.join(os.path.dirname(os.path.abspath(__file__)), "..", "tools"))
+import decay_tables
+
+RECORDS = 1200  # a ledger takes no more
+BYTES = 48  # of a record, and of an output record
+MASS_LIMIT = 10**9  # kg
+KINDS, CLIMATES, CLASSES = (1, 2), (1, 2, 3, 4), (1, 2, 3, 4)
+NONE = (0,) * 8
+
+
+# "Waste types and their constants"
+
+DOC = (4300, 4000, 1500, 2400, 2000, 0, 500, 900)
+GROUPS = ("B", "A", "D", "A", "C", "none", "D", "sludge")
+RATES = {
+    "A": (40, 60, 45, 70),
+    "B": (20, 30, 25, 35),
+    "C": (50, 100, 65, 170),
+    "D": (60, 185, 85, 400),
+    "none": (0, 0, 0, 0),
+    "sludge": (30, 30, 30, 30),
+}
+MCF = (100, 50, 80, 40)
+
+
+def rates(climate):
+    """The yearly rates of the eight types in thousandths, 0 for the type that has none."""
+    return tuple(RATES[group][climate - 1] for group in GROUPS)
+
+
+# "The decay table"
+
+
+@cache
+def decay(kind, rate):
+    """The look-up: the entry for a listed rate, 0 for any other rate or kind."""
+    return decay_tables.entry(kind, rate) if kind in KINDS and 1 <= rate <= 400 else 0
+
+
+# "One record"
+
+
+class Record(NamedTuple):
+    period: int
+    kind: int
+    climate: int
+    factor: int
+    OX: int
+    F: int
+    DOCf: int
+    site_class: int
+    GWP: int
+    f: int
+    zero: bytes
+    masses: tuple
+
+
+def number(data, at, width):
+    """The little-endian number of that many bytes at a place."""
+    return int.from_bytes(data[at : at + width], "little")
+
+
+def read_record(data):
+    """The fields of 48 bytes."""
+    masses = tuple(number(data, at, 4) for at in range(16, 48, 4))
+    return Record(number(data, 0, 2), *data[2:10], number(data, 10, 2), data[12:16], masses)
+
+
+def write_record(record):
+    """The 48 bytes of a record's fields."""
+    numbers = [(record.period, 2), *((byte, 1) for byte in record[1:9]), (record.f, 2)]
+    return little(numbers) + record.zero + little((mass, 4) for mass in record.masses)
+
+
+def little(numbers):
+    """Pairs of a number and its width, as little-endian bytes one after another."""
+    return b"".join(value.to_bytes(width, "little") for value, width in numbers)
+
+
+# "One step"
+
+
+class Ledger(NamedTuple):
+    n: int = 0
+    kind: int = 0
+    climate: int = 0
+    T: tuple = NONE  # mg brought in, for each type
+    R: tuple = NONE  # mg left, for each type
+
+
+FRESH = Ledger()
+
+
+class Step(NamedTuple):
+    ledger: Ledger
+    refusal: int
+    releases: tuple
+    x0: int
+    figure: int
+    bound: int
+    output: bytes
+
+
+def deposits(record):
+    """The carbon that a record brings, in mg for each type."""
+    return tuple(mass * doc * 100 for mass, doc in zip(record.masses, DOC))
+
+
+def take(ledger, record):
+    """The ledger after an accepted record, and the eight releases G."""
+    D = [decay(record.kind, rate) for rate in rates(record.climate)]
+    brought = deposits(record)
+    T = tuple(t + deposit for t, deposit in zip(ledger.T, brought))
+    H = [r + deposit for r, deposit in zip(ledger.R, brought)]
+    R = tuple(h * d // 10**9 for h, d in zip(H, D))
+    G = tuple(h - r for h, r in zip(H, R))
+    return Ledger(ledger.n + 1, record.kind, record.climate, T, R), G
+
+
+def figure_of(record, x0):
+    """The figure in grams CO2e, rounded down after each line."""
+    x1 = x0 * record.factor * (10000 - record.f) // 10**6
+    x2 = x1 * (100 - record.OX) * record.F * record.DOCf * MCF[record.site_class - 1] // 10**8
+    return x2 * 4 * record.GWP // 3000
+
+
+def bound_of(record, after):
+    """The bound, with n and T as they stand after this record."""
+    B = sum(after.n + 1 + after.n * t // 10**9 for t in after.T if t > 0)
+    return 3 + B * 4 * record.GWP // 3000
+
+
+def totals(ledger):
+    """Total R and total T."""
+    return sum(ledger.R), sum(ledger.T)
+
+
+def output_record(record, x0, figure, bound, after):
+    """The output record of 48 bytes."""
+    head = [(record.period, 2), (record.kind, 1), (record.climate, 1), (0, 4)]
+    return little(head + [(value, 8) for value in (x0, figure, bound, *totals(after))])
+
+
+def step(ledger, data, output):
+    """Offers one record's bytes to a ledger, with an output buffer."""
+    refusal = refusal_of(ledger, data, len(output))
+    if refusal:
+        return Step(ledger, refusal, NONE, 0, 0, 0, output)
+    record = read_record(data)
+    after, releases = take(ledger, record)
+    x0 = sum(releases)
+    figure, bound = figure_of(record, x0), bound_of(record, after)
+    written = output_record(record, x0, figure, bound, after)
+    return Step(after, 0, releases, x0, figure, bound, written + output[BYTES:])
+
+
+class Run(NamedTuple):
+    ledger: Ledger
+    accepted: int
+    refusal: int
+    output: bytes
+
+
+def records_of(data):
+    """The bytes cut into records, the last perhaps short."""
+    return [data[at : at + BYTES] for at in range(0, len(data), BYTES)]
+
+
+def run(ledger, data, output):
+    """The whole run: stops at the first record that is refused."""
+    for accepted, offered in enumerate(records_of(data)):
+        at = BYTES * accepted
+        answer = step(ledger, offered, output[at:])
+        if answer.refusal:
+            return Run(ledger, accepted, answer.refusal, output)
+        ledger, output = answer.ledger, output[:at] + answer.output
+    return Run(ledger, len(records_of(data)), 0, output)
+
+
+# "Refusal numbers, tested in this order"
+
+
+def sound(ledger):
+    """Whether refusal 3 does not hold."""
+    if ledger.n == 0:
+        return ledger == FRESH
+    return (
+        ledger.n <= RECORDS
+        and ledger.kind in KINDS
+        and ledger.climate in CLIMATES
+        and all(t <= ledger.n * MASS_LIMIT * doc * 100 for t, doc in zip(ledger.T, DOC))
+        and all(r <= t for r, t in zip(ledger.R, ledger.T))
+    )
+
+
+def is_coded(record):
+    """Whether refusal 5 does not hold."""
+    coded = record.kind in KINDS and record.climate in CLIMATES and record.site_class in CLASSES
+    return coded and record.zero == bytes(4)
+
+
+def in_range(record):
+    """Whether refusal 8 does not hold."""
+    percents = all(byte <= 100 for byte in (record.OX, record.F, record.DOCf))
+    return percents and 1 <= record.factor <= 100 and 1 <= record.GWP <= 100 and record.f <= 10000
+
+
+def refusal_of(ledger, data, room):
+    """The number of the first fault, or 0."""
+    if len(data) != BYTES:
+        return 1
+    if room < BYTES:
+        return 2
+    if not sound(ledger):
+        return 3
+    if ledger.n == RECORDS:
+        return 4
+    record = read_record(data)
+    if not is_coded(record):
+        return 5
+    if record.period != ledger.n + 1:
+        return 6
+    if ledger.n > 0 and (record.kind, record.climate) != (ledger.kind, ledger.climate):
+        return 7
+    if not in_range(record):
+        return 8
+    if any(mass > MASS_LIMIT for mass in record.masses):
+        return 9
+    return 0
+
+
+# "The spreadsheet door". A float goes in and out as the whole number of its 64 bits.
+
+
+def value_of(bits):
+    """The exact value of a float, None where it is infinite or not a number."""
+    sign, exponent, part = -1 if bits >> 63 else 1, bits >> 52 & 2047, bits % 2**52
+    if exponent == 2047:
+        return None
+    whole = part if exponent == 0 else part + 2**52
+    return sign * whole * Fraction(2) ** (max(exponent, 1) - 1075)
+
+
+def bits_of(whole):
+    """The float equal to a whole number from 0 to 2^53."""
+    if whole == 0:
+        return 0
+    exponent = whole.bit_length() - 1
+    return (exponent + 1023 << 52) + (whole << 52 >> exponent) - 2**52
+
+
+def cell(bits):
+    """The refusal and the mass of a cell: None where it is empty, else the bits of its float."""
+    if bits is None:
+        return 10, 0
+    value = value_of(bits)
+    if value is None or value.denominator != 1:
+        return 11, 0
+    if not 0 <= value <= MASS_LIMIT:
+        return 12, 0
+    return 0, int(value)
+
+
+def point(figure, bound):
+    """The refusal of a chart point, and its figure, low edge and high edge as bits."""
+    if figure + bound > 2**53:
+        return 13, 0, 0, 0
+    return 0, bits_of(figure), bits_of(max(figure - bound, 0)), bits_of(figure + bound)
+
+
+# "Worked figures": the listing
+
+
+def line(period, answer):
+    """The line of an accepted record."""
+    left, _ = totals(answer.ledger)
+    return f"{period} {answer.x0} {answer.figure} {answer.bound} {left}\n"
+
+
+def listing(data):
+    """What the listing program prints for a file's bytes."""
+    text, ledger = "", FRESH
+    for place, offered in enumerate(records_of(data), 1):
+        answer = step(ledger, offered, bytes(BYTES))
+        if answer.refusal:
+            return text + f"refused {answer.refusal} at record {place}\n"
+        text, ledger = text + line(read_record(offered).period, answer), answer.ledger
+    return text
