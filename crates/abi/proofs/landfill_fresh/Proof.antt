@@ -17,9 +17,5 @@ pub landfill-fresh-spec : {M : Type 1} → statement M
 unfolding freshLeft
 landfill-fresh-spec =
     tie.close
-    (tie.spec
-    (λ c. simp (ne-eqb _ _ (c .if1 .taken)) (refl, refl))
-    (λ c κs. search needs)
-    (λ c κs. search needs)
-    (λ c. search needs)
-    returns-2)
+    (tie.spec (λ c. simp (ne-eqb _ _ (c .if1 .taken)) (refl, refl)) (λ c κs. search needs) (λ c κs. search needs)
+    (λ c. search needs) returns-2)

@@ -13,7 +13,4 @@ returns c =
 pub landfill-listing-spec : {M : Type 1} → statement M
 landfill-listing-spec =
     tie.close
-    (tie.spec
-    (λ c κs. search needs)
-    (λ c. search needs)
-    returns)
+    (tie.spec (λ c κs. search needs) (λ c. search needs) returns)

@@ -17,6 +17,4 @@ returns c =
 pub landfill-point-spec : {M : Type 1} → statement M
 landfill-point-spec =
     tie.close
-    (tie.spec
-    (λ c κs. search needs)
-    returns)
+    (tie.spec (λ c κs. search needs) returns)

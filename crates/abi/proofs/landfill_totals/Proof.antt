@@ -15,7 +15,4 @@ returns c =
 pub landfill-totals-spec : {M : Type 1} → statement M
 landfill-totals-spec =
     tie.close
-    (tie.spec
-    (λ c κs. search needs)
-    (λ c κs. search needs)
-    returns)
+    (tie.spec (λ c κs. search needs) (λ c κs. search needs) returns)

@@ -28,10 +28,6 @@ returns c =
 pub accepted-spec : {M : Type 1} → statement M
 accepted-spec =
     tie.close
-    (tie.spec
-    (λ c κs. search needs)
-    (λ c κs. search needs)
-    (λ c κs. search needs)
-    (λ c κs. search needs)
+    (tie.spec (λ c κs. search needs) (λ c κs. search needs) (λ c κs. search needs) (λ c κs. search needs)
     (λ c κs. omega (arith, short (c .before .before .before .before .before .before .before)))
     returns)

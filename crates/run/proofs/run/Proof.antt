@@ -105,47 +105,14 @@ returns-4 c =
 pub run-spec : {M : Type 1} → statement M
 run-spec =
     tie.close
-    (tie.spec
-    Inv-loop
-    μ-loop
-    Inv-records
-    μ-records
-    (λ c κs. search needs)
-    (λ c κs. search needs)
-    records-holds
-    (λ c. search needs)
-    (λ c. search needs)
-    (λ c. search needs)
-    (λ c. search needs)
-    (λ c. search needs)
-    (λ c. search needs)
-    (λ c κs. search needs)
-    (λ c. (search needs, λ k l. absurd (omega arith)))
-    (λ c. search needs)
-    (λ c. search needs)
-    (λ c. search needs)
-    (λ c κs. search needs)
-    (λ c. search needs)
-    (λ c. search needs)
-    loop-again
-    (λ c. search needs)
-    (λ c. search needs)
-    (λ c. search needs)
-    (λ c. search needs)
-    account-requires
-    (λ c. search needs)
-    (λ c. search needs)
-    (λ c. search needs)
-    write-requires
+    (tie.spec Inv-loop μ-loop Inv-records μ-records (λ c κs. search needs) (λ c κs. search needs) records-holds
+    (λ c. search needs) (λ c. search needs) (λ c. search needs) (λ c. search needs) (λ c. search needs)
+    (λ c. search needs) (λ c κs. search needs) (λ c. (search needs, λ k l. absurd (omega arith))) (λ c. search needs)
+    (λ c. search needs) (λ c. search needs) (λ c κs. search needs) (λ c. search needs) (λ c. search needs) loop-again
+    (λ c. search needs) (λ c. search needs) (λ c. search needs) (λ c. search needs) account-requires
+    (λ c. search needs) (λ c. search needs) (λ c. search needs) write-requires
     (λ c. let h = c .before .before .before .before .before .before .before .before .before .before .before .before .before .before .records in omega (arith, h .inv .steps, h .inv .in-file, c .before .before .before .before .before .before .before .before .before .before .before .before .if2, c .before .before .before .before .before .before .before .before .before .before .before .before .before .before .before .before .before .before .before))
     (λ c. omega (arith, c .before .before .before .before .before .before .before .before .before .before .before .before .if2, c .before .before .before .before .before .before .before .before .before .before .before .before .before .before .before .before .before .before .before))
     (λ c. omega (arith, c .before .before .before .before .before .before .before .before .before .before .before .before .if2))
-    records-again
-    (λ c. search needs)
-    returns
-    (λ c. search needs)
-    returns-2
-    (λ c. search needs)
-    returns-3
-    (λ c. search needs)
-    returns-4)
+    records-again (λ c. search needs) returns (λ c. search needs) returns-2 (λ c. search needs) returns-3
+    (λ c. search needs) returns-4)

@@ -32,11 +32,5 @@ returns-3 c = λ ok.
 pub run-entries-spec : {M : Type 1} → statement M
 run-entries-spec =
     tie.close
-    (tie.spec
-    (λ c κs. search needs)
-    returns
-    returns-2
-    (λ c. search needs)
-    (λ c. search needs)
-    (λ c κs. search needs)
+    (tie.spec (λ c κs. search needs) returns returns-2 (λ c. search needs) (λ c. search needs) (λ c κs. search needs)
     returns-3)

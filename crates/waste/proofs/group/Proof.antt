@@ -21,12 +21,5 @@ returns-8 c =
 pub group-spec : {M : Type 1} → statement M
 group-spec =
     tie.close
-    (tie.spec
-    (λ c. rw (c .if1 .taken))
-    (λ c. rw (c .if2 .taken))
-    (λ c. rw (c .if3 .taken))
-    (λ c. rw (c .if4 .taken))
-    (λ c. rw (c .if5 .taken))
-    (λ c. rw (c .if6 .taken))
-    (λ c. rw (c .if7 .taken))
-    returns-8)
+    (tie.spec (λ c. rw (c .if1 .taken)) (λ c. rw (c .if2 .taken)) (λ c. rw (c .if3 .taken)) (λ c. rw (c .if4 .taken))
+    (λ c. rw (c .if5 .taken)) (λ c. rw (c .if6 .taken)) (λ c. rw (c .if7 .taken)) returns-8)

@@ -9,7 +9,5 @@ pub is-image-spec : {M : Type 1} → statement M
 unfolding isImage
 is-image-spec =
     tie.close
-    (tie.spec
-    (λ c. simp (ne-eqb _ _ (c .if1 .taken)))
-    (λ c κs. search needs)
+    (tie.spec (λ c. simp (ne-eqb _ _ (c .if1 .taken))) (λ c κs. search needs)
     (λ c. simp (c .read-u32 .ensures .0, eq-eqb _ _ (c .before .if1 .left))))

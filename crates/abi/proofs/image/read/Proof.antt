@@ -25,13 +25,11 @@ returns-2 c = simp (sym (c .before .is-image .ensures) ∙ c .if1 .left)
 pub read-spec : {M : Type 1} → statement M
 read-spec =
     tie.close
-    (tie.spec
-    (λ c κs. search needs)
+    (tie.spec (λ c κs. search needs)
     (λ c κs. let s = c .before .before .before in omega (arith, image-size (s .args .bytes .now) (sym (c .before .is-image .ensures) ∙ c .if1 .taken)))
     (λ c. search needs)
     (λ c. let s = c .before .before .before .before .before in omega (arith, image-size (s .args .bytes .now) (sym (c .before .before .before .is-image .ensures) ∙ c .before .before .if1 .taken)))
     (λ c. let s = c .before .before .before .before .before .before in omega (arith, image-size (s .args .bytes .now) (sym (c .before .before .before .before .is-image .ensures) ∙ c .before .before .before .if1 .taken)))
     (λ c κs. let s = c .before .before .before .before .before .before in omega (arith, image-size (s .args .bytes .now) (sym (c .before .before .before .before .is-image .ensures) ∙ c .before .before .before .if1 .taken)))
     (λ c κs. let s = c .before .before .before .before .before .before .before in omega (arith, image-size (s .args .bytes .now) (sym (c .before .before .before .before .before .is-image .ensures) ∙ c .before .before .before .before .if1 .taken)))
-    returns
-    returns-2)
+    returns returns-2)

@@ -20,12 +20,5 @@ float-requires-3 c κs =
 pub charted-spec : {M : Type 1} → statement M
 charted-spec =
     tie.close
-    (tie.spec
-    (λ c κs. search needs)
-    (λ c. search needs)
-    (λ c κs. search needs)
-    float-requires
-    float-requires-2
-    float-requires-3
-    (λ c. search needs)
-    (λ c. search needs))
+    (tie.spec (λ c κs. search needs) (λ c. search needs) (λ c κs. search needs) float-requires float-requires-2
+    float-requires-3 (λ c. search needs) (λ c. search needs))

@@ -11,10 +11,5 @@ returns-6 c =
 pub least-spec : {M : Type 1} → statement M
 least-spec =
     tie.close
-    (tie.spec
-    (λ c. rw (c .match .keys1))
-    (λ c. rw (c .match .keys2))
-    (λ c. rw (c .match .keys3))
-    (λ c. rw (c .match .keys4))
-    (λ c. rw (c .match .keys5))
-    returns-6)
+    (tie.spec (λ c. rw (c .match .keys1)) (λ c. rw (c .match .keys2)) (λ c. rw (c .match .keys3))
+    (λ c. rw (c .match .keys4)) (λ c. rw (c .match .keys5)) returns-6)

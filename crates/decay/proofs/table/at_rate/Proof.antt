@@ -10,10 +10,6 @@ returns-3 c = simp (ne-eqb _ _ (c .before .before .if1 .left), le-leb _ _ (c .be
 pub at-rate-spec : {M : Type 1} → statement M
 at-rate-spec =
     tie.close
-    (tie.spec
-    (λ c. simp (eq-eqb _ _ (c .if1 .taken)))
+    (tie.spec (λ c. simp (eq-eqb _ _ (c .if1 .taken)))
     (λ c. simp (ne-eqb _ _ (c .before .if1 .left), lt-leb _ _ (c .if2 .taken)))
-    (λ c. search needs)
-    (λ c. search needs)
-    (λ c. search needs)
-    returns-3)
+    (λ c. search needs) (λ c. search needs) (λ c. search needs) returns-3)

@@ -38,9 +38,7 @@ returns-3 c = c .if3 .left ∙ (rw (c .if3 .left) at (at-far (c .before)))
 pub is-whole-spec : {M : Type 1} → statement M
 is-whole-spec =
     tie.close
-    (tie.spec
-    (λ c κs. at-near c .room)
+    (tie.spec (λ c κs. at-near c .room)
     (λ c. subst (λ (z : ℤ). T (inFloat binary64 z)) (sym (whole-part (c .before))) (at-near (c .before .before) .held))
     (λ c. ap (λ (z : ℤ). eq (ofInt binary64 z) (c .before .before .before .before .args .kg)) (whole-part (c .before)) ∙ at-near (c .before .before) .tells)
-    returns-2
-    returns-3)
+    returns-2 returns-3)

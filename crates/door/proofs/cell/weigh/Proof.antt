@@ -37,15 +37,8 @@ returns-4 c = rw (c .truncating-f64-to-u64 .ensures) (at-mass (c .before) .mass)
 pub weigh-spec : {M : Type 1} → statement M
 weigh-spec =
     tie.close
-    (tie.spec
-    (λ c. search needs)
-    (λ c. search needs)
-    (λ c. search needs)
-    (λ c κs. search needs)
-    returns-2
-    (λ c. search needs)
-    returns-3
-    (λ c κs. at-mass c .room)
+    (tie.spec (λ c. search needs) (λ c. search needs) (λ c. search needs) (λ c κs. search needs) returns-2
+    (λ c. search needs) returns-3 (λ c κs. at-mass c .room)
     (λ c. omega (arith, c .truncating-f64-to-u64 .ensures, at-mass (c .before) .small))
     returns-4
     (λ c. not-whole-11 (wholeOf (kg (c .before))) (sym (c .before .is-whole .ensures) ∙ c .if1 .left) ∙ asked (c .before)))

@@ -50,17 +50,6 @@ returns c =
 pub figure-spec : {M : Type 1} → statement M
 figure-spec =
     tie.close
-    (tie.spec
-    (λ c κs. search needs)
-    (λ c κs. search needs)
-    kept-requires
-    (λ c. search needs)
-    (λ c κs. search needs)
-    (λ c. search needs)
-    (λ c κs. search needs)
-    (λ c κs. search needs)
-    (λ c κs. search needs)
-    methane-requires
-    (λ c κs. search needs)
-    grams-requires
-    returns)
+    (tie.spec (λ c κs. search needs) (λ c κs. search needs) kept-requires (λ c. search needs) (λ c κs. search needs)
+    (λ c. search needs) (λ c κs. search needs) (λ c κs. search needs) (λ c κs. search needs) methane-requires
+    (λ c κs. search needs) grams-requires returns)

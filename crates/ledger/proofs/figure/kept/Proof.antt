@@ -26,8 +26,6 @@ returns c =
 pub kept-spec : {M : Type 1} → statement M
 kept-spec =
     tie.close
-    (tie.spec
-    (λ c. search needs)
+    (tie.spec (λ c. search needs)
     (λ c. omega (arith, kept-share (c .args .factor) (c .args .captured) (search needs)))
-    mul-div-requires
-    returns)
+    mul-div-requires returns)

@@ -31,9 +31,6 @@ pub margin-spec : {M : Type 1} → statement M
 unfolding marginOf
 margin-spec =
     tie.close
-    (tie.spec
-    (λ c. (simp (eq-eqb _ _ (c .if1 .taken)), search needs))
-    (λ c. search needs)
-    mul-div-requires
+    (tie.spec (λ c. (simp (eq-eqb _ _ (c .if1 .taken)), search needs)) (λ c. search needs) mul-div-requires
     (λ c. let a = c .before .before .args in omega (arith, small (a .n) (a .brought) (search needs) (search needs)))
     returns-2)

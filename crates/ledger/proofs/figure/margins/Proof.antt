@@ -35,15 +35,5 @@ returns c =
 pub margins-spec : {M : Type 1} → statement M
 margins-spec =
     tie.close
-    (tie.spec
-    Inv-loop
-    μ-loop
-    (λ c. search needs)
-    (λ c. search needs)
-    (λ c. search needs)
-    margin-requires
-    (λ c. search needs)
-    (λ c. search needs)
-    (λ c. search needs)
-    loop-again
-    returns)
+    (tie.spec Inv-loop μ-loop (λ c. search needs) (λ c. search needs) (λ c. search needs) margin-requires
+    (λ c. search needs) (λ c. search needs) (λ c. search needs) loop-again returns)

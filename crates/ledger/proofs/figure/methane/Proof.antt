@@ -31,10 +31,8 @@ returns c =
 pub methane-spec : {M : Type 1} → statement M
 methane-spec =
     tie.close
-    (tie.spec
-    (λ c. search needs)
+    (tie.spec (λ c. search needs)
     (λ c. let a = c .args in omega (arith, two-shares (a .oxidation) (a .share) (a .docf) (a .correction) (search needs)))
     (λ c. let a = c .args in omega (arith, three-shares (a .oxidation) (a .share) (a .docf) (a .correction) (search needs) (search needs)))
     (λ c. let a = c .args in omega (arith, four-shares (a .oxidation) (a .share) (a .docf) (a .correction) (search needs) (search needs) (search needs)))
-    mul-div-requires
-    returns)
+    mul-div-requires returns)

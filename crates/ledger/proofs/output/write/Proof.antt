@@ -28,7 +28,4 @@ write-spec =
     (tie.spec
     (λ c κs. let s = c .before .before .before .before in λ t h. let w = sound-is (s .args .answer .ledger) (s .pre .1) .at t h in omega (arith, w .kept, w .small))
     (λ c κs. λ t h. let s = c .before .before .before .before .before in sound-is (s .args .answer .ledger) (s .pre .1) .at t h .small)
-    (λ c κs. search needs)
-    (λ c κs. search needs)
-    (λ c. search needs)
-    returns)
+    (λ c κs. search needs) (λ c κs. search needs) (λ c. search needs) returns)

@@ -12,8 +12,4 @@ returns c = rw (c .read-u32 .ensures .0)
 pub is-light-spec : {M : Type 1} → statement M
 is-light-spec =
     tie.close
-    (tie.spec
-    (λ c. search needs)
-    (λ c. search needs)
-    (λ c κs. search needs)
-    returns)
+    (tie.spec (λ c. search needs) (λ c. search needs) (λ c κs. search needs) returns)

@@ -22,11 +22,7 @@ returns c =
 pub deposit-spec : {M : Type 1} → statement M
 deposit-spec =
     tie.close
-    (tie.spec
-    (λ c. search needs)
-    (λ c. search needs)
-    (λ c κs. search needs)
-    (λ c. search needs)
+    (tie.spec (λ c. search needs) (λ c. search needs) (λ c κs. search needs) (λ c. search needs)
     (λ c. omega (arith, most (c .before .args .mass) (c .before .args .t) (c .carbon .result) (search needs) (c .carbon .ensures)))
     (λ c. omega (arith, most (c .before .args .mass) (c .before .args .t) (c .carbon .result) (search needs) (c .carbon .ensures)))
     returns)

@@ -61,24 +61,7 @@ returns-3 c = at-end (c .before .loop .inv) (c .loop-test .left)
 pub listing-spec : {M : Type 1} → statement M
 listing-spec =
     tie.close
-    (tie.spec
-    Inv-loop
-    μ-loop
-    (λ c. search needs)
-    (λ c. search needs)
-    returns
-    (λ c κs. search needs)
-    loop-holds
-    (λ c κs. search needs)
-    (λ c κs. search needs)
-    put-requires
-    (λ c. search needs)
-    returns-2
-    line-of-requires
-    put-requires-2
-    (λ c. search needs)
-    (λ c. search needs)
-    (λ c. search needs)
-    loop-again
-    (λ c. search needs)
+    (tie.spec Inv-loop μ-loop (λ c. search needs) (λ c. search needs) returns (λ c κs. search needs) loop-holds
+    (λ c κs. search needs) (λ c κs. search needs) put-requires (λ c. search needs) returns-2 line-of-requires
+    put-requires-2 (λ c. search needs) (λ c. search needs) (λ c. search needs) loop-again (λ c. search needs)
     returns-3)

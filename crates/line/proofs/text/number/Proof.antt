@@ -12,6 +12,5 @@ number-spec =
     (λ c κs. omega (arith, few (c .before .args .n) 19 (omega arith)))
     (λ c. omega (arith, few (c .before .before .args .n) 19 (omega arith)))
     (λ c. omega (arith, few (c .before .before .args .n) 19 (omega arith)))
-    (λ c.
-    let s = c .before .before .args in
+    (λ c. let s = c .before .before .args in
     (write-byte (c .decimal .ensures) (s .follows), omega (arith, few (s .n) 19 (omega arith)))))

@@ -35,16 +35,7 @@ returns c =
 pub words-spec : {M : Type 1} → statement M
 words-spec =
     tie.close
-    (tie.spec
-    Inv-loop
-    μ-loop
+    (tie.spec Inv-loop μ-loop
     (λ c. (search needs, record { stands = refl; as-many = refl; ends = refl }))
-    (λ c. search needs)
-    (λ c. search needs)
-    (λ c. search needs)
-    (λ c. search needs)
-    (λ c. search needs)
-    loop-again
-    (λ c. search needs)
-    (λ c. c .before .loop .inv .1 .as-many)
-    returns)
+    (λ c. search needs) (λ c. search needs) (λ c. search needs) (λ c. search needs) (λ c. search needs) loop-again
+    (λ c. search needs) (λ c. c .before .loop .inv .1 .as-many) returns)

@@ -8,8 +8,7 @@ use Rattle.numbers.proofs.ratio.mul_div.Tie as tie
 pub mul-div-spec : {M : Type 1} → statement M
 mul-div-spec =
     tie.close
-    (tie.spec
-    (λ c. search needs)
+    (tie.spec (λ c. search needs)
     (λ c. omega (arith, split (c .args .a) (c .args .b) (c .args .c) (search needs)))
     (λ c. search needs)
     (λ c. omega (arith, rest-most (c .args .a) (c .args .b) (c .args .c) (search needs)))

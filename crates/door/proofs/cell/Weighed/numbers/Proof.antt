@@ -8,12 +8,6 @@ use Rattle.door.proofs.cell.Weighed.numbers.Tie as tie
 pub numbers-spec : {M : Type 1} → statement M
 numbers-spec =
     tie.close
-    (tie.spec
-    (λ c. search needs)
-    (λ c. search needs)
-    (λ c. search needs)
-    (λ c. search needs)
-    (λ c. sym (ap numbersOf (c .before .self .given .1)))
-    (λ c. sym (ap numbersOf (c .enum-told .given .1)))
-    (λ c. sym (ap numbersOf (c .enum-told2 .given .1)))
-    (λ c. sym (ap numbersOf (c .enum-told3 .given .1))))
+    (tie.spec (λ c. search needs) (λ c. search needs) (λ c. search needs) (λ c. search needs)
+    (λ c. sym (ap numbersOf (c .before .self .given .1))) (λ c. sym (ap numbersOf (c .enum-told .given .1)))
+    (λ c. sym (ap numbersOf (c .enum-told2 .given .1))) (λ c. sym (ap numbersOf (c .enum-told3 .given .1))))

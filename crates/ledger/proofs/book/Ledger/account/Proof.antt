@@ -71,18 +71,9 @@ returns c =
 pub account-spec : {M : Type 1} → statement M
 account-spec =
     tie.close
-    (tie.spec
-    (λ c κs. search needs)
-    (λ c κs. search needs)
-    (λ c κs. search needs)
-    total-requires
-    (λ c. search needs)
-    (λ c. search needs)
-    margins-requires
+    (tie.spec (λ c κs. search needs) (λ c κs. search needs) (λ c κs. search needs) total-requires (λ c. search needs)
+    (λ c. search needs) margins-requires
     (λ c. let s = c .before .before .before .before .before .before .before .before in omega (arith, accepted (s .args .self) (s .args .«record» .now) 48 (s .pre .0) .more))
     (λ c. let s = c .before .before .before .before .before .before .before .before .before in omega (arith, accepted (s .args .self) (s .args .«record» .now) 48 (s .pre .0) .size))
     (λ c. let s = c .before .before .before .before .before .before .before .before .before .before in omega (arith, accepted (s .args .self) (s .args .«record» .now) 48 (s .pre .0) .size))
-    (λ c κs. search needs)
-    figure-requires
-    bound-requires
-    returns)
+    (λ c κs. search needs) figure-requires bound-requires returns)

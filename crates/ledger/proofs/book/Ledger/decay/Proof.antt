@@ -74,19 +74,6 @@ returns c =
 pub decay-spec : {M : Type 1} → statement M
 decay-spec =
     tie.close
-    (tie.spec
-    (λ c. search needs)
-    (λ c. search needs)
-    read-u32-requires
-    deposit-requires
-    (λ c. search needs)
-    (λ c. search needs)
-    add-held
-    (λ c. search needs)
-    (λ c. search needs)
-    left-requires
-    (λ c. search needs)
-    (λ c. search needs)
-    add-t20
-    (λ c. search needs)
-    returns)
+    (tie.spec (λ c. search needs) (λ c. search needs) read-u32-requires deposit-requires (λ c. search needs)
+    (λ c. search needs) add-held (λ c. search needs) (λ c. search needs) left-requires (λ c. search needs)
+    (λ c. search needs) add-t20 (λ c. search needs) returns)

@@ -7,13 +7,7 @@ use Rattle.ledger.proofs.book.Ledger.decay_all.Tie as tie
 pub decay-all-spec : {M : Type 1} → statement M
 decay-all-spec =
     tie.close
-    (tie.spec
-    (λ c κs. search needs)
-    (λ c κs. search needs)
-    (λ c κs. search needs)
-    (λ c κs. search needs)
-    (λ c κs. search needs)
-    (λ c κs. search needs)
-    (λ c κs. search needs)
+    (tie.spec (λ c κs. search needs) (λ c κs. search needs) (λ c κs. search needs) (λ c κs. search needs)
+    (λ c κs. search needs) (λ c κs. search needs) (λ c κs. search needs)
     (λ c κs. let s = c .before .before .before .before .before .before .before .before in ((s .pre .0, omega arith), s .pre .1))
     (λ c. search needs))

@@ -47,13 +47,7 @@ returns-2 c =
 pub take-spec : {M : Type 1} → statement M
 take-spec =
     tie.close
-    (tie.spec
-    (λ c κs. search needs)
-    returns
+    (tie.spec (λ c κs. search needs) returns
     (λ c. let s = c .before .before .before .before .before in omega (arith, accepted (s .args .self) (s .args .«record» .now) _ (sym (c .before .before .refusal .ensures) ∙ c .before .if1 .left) .size))
     (λ c. let s = c .before .before .before .before .before .before in omega (arith, accepted (s .args .self) (s .args .«record» .now) _ (sym (c .before .before .before .refusal .ensures) ∙ c .before .before .if1 .left) .size))
-    (λ c κs. search needs)
-    account-requires
-    write-requires
-    (λ c. search needs)
-    returns-2)
+    (λ c κs. search needs) account-requires write-requires (λ c. search needs) returns-2)

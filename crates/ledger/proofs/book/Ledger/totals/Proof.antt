@@ -38,9 +38,4 @@ returns-2 c =
 pub totals-spec : {M : Type 1} → statement M
 totals-spec =
     tie.close
-    (tie.spec
-    (λ c κs. search needs)
-    returns
-    total-requires
-    total-requires-2
-    returns-2)
+    (tie.spec (λ c κs. search needs) returns total-requires total-requires-2 returns-2)
