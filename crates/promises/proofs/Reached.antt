@@ -17,7 +17,8 @@ use Rattle.ledger.specs.Take.{acceptedOf, refusedOf}
 use Rattle.promises.specs.Offer.{Offer, Outcome, start, taken, offered, offeredAll, offering}
 use Rattle.promises.specs.Promises.{Conserved}
 use Rattle.promises.proofs.Lists.{length-more, added-more}
-use Rattle.promises.proofs.Accepted.{accepted, answered, turned-away}
+use Rattle.ledger.proofs.Take as step
+use Rattle.promises.proofs.Accepted.{accepted}
 use Rattle.promises.proofs.Step.{brought-after, released, parted}
 
 pub data Reached : Outcome → Type 0 where
@@ -29,12 +30,12 @@ module _ (o : Outcome) (offer : Offer) where
   taken-is : refusalOf (o .ledger) (offer .bytes) (offer .room) ≡ 0
       → offered o offer ≡ taken o (offer .bytes) (acceptedOf (o .ledger) (offer .bytes))
   unfolding offered acceptedOf
-  taken-is e = simp (answered (o .ledger) (offer .bytes) (offer .room) e)
+  taken-is e = simp (step.taken (o .ledger) (offer .bytes) (offer .room) e)
 
   passed-over : (refusalOf (o .ledger) (offer .bytes) (offer .room) ≡ 0 → ⊥) → offered o offer ≡ o
   unfolding offered refusedOf
   passed-over e =
-      simp (turned-away (o .ledger) (offer .bytes) (offer .room) e, ne-eqb (refusalOf (o .ledger) (offer .bytes) (offer .room)) 0 e)
+      simp (step.not-taken (o .ledger) (offer .bytes) (offer .room) e, ne-eqb (refusalOf (o .ledger) (offer .bytes) (offer .room)) 0 e)
 
   one-more : Reached o → Reached (offered o offer)
   one-more r =
