@@ -32,18 +32,18 @@ depositOf mass t = mass * carbonOf (t + 1) * 100
 unfoldable pub leftOf : (H D : ℕ) → ℕ
 leftOf H D = H * D / 10 ^ 9
 
--- The ledger l and an accepted record:
-module _ (l : Ledger) (bytes : List ℕ) (t : ℕ) where
-  unfoldable pub deposit : ℕ
-  deposit = depositOf (massOf bytes t) t
+-- What an accepted record brings at place t, and what it makes of the ledger l:
+unfoldable pub deposit : (bytes : List ℕ) (t : ℕ) → ℕ
+deposit bytes t = depositOf (massOf bytes t) t
 
+module _ (l : Ledger) (bytes : List ℕ) (t : ℕ) where
   -- the deposit is added to T;
   unfoldable pub newBrought : ℕ
-  newBrought = broughtAt l t + deposit
+  newBrought = broughtAt l t + deposit bytes t
 
   -- H = R + deposit: new waste decays in its own period;
   unfoldable pub held : ℕ
-  held = stockAt l t + deposit
+  held = stockAt l t + deposit bytes t
 
   unfoldable pub newStock : ℕ
   newStock = leftOf held (entryAt (kindOf bytes) (climateOf bytes) t)
