@@ -28,7 +28,7 @@ put-requires : tie.Need-put-requires Inv-loop μ-loop
 put-requires c κs =
     let lent = c .refused .ensures .1 in
     let in-loop = c .before .before .before .before .before in
-    (lent, line-fits (in-loop .before .loop .inv) (in-loop .loop-test .taken) lent)
+    (lent, omega (arith, line-fits (in-loop .before .loop .inv) (in-loop .loop-test .taken) lent))
 
 returns-2 : tie.Need-returns-2 Inv-loop μ-loop
 returns-2 c =
@@ -45,7 +45,7 @@ put-requires-2 : tie.Need-put-requires-2 Inv-loop μ-loop
 put-requires-2 c κs =
     let lent = c .line-of .ensures .1 in
     let in-loop = c .before .before .before .before .before in
-    (lent, line-fits (in-loop .before .loop .inv) (in-loop .loop-test .taken) lent)
+    (lent, omega (arith, line-fits (in-loop .before .loop .inv) (in-loop .loop-test .taken) lent))
 
 loop-again : tie.Need-loop-again Inv-loop μ-loop
 loop-again c =
