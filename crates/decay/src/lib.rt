@@ -5,7 +5,14 @@ mod table;
 ghost use mathlib.Core.Path.{_≡_};
 ghost use lib.ListN.{getD};
 ghost use Rattle.numbers.specs.Eight.{eight};
-ghost use Rattle.decay.specs.Series.{entryOf};
+ghost use Rattle.decay.specs.Series.{isKind, entryOf};
+
+// Tells whether a number is a kind's: 1 yearly, 2 monthly.
+pub fn is_kind(kind: u8) -> bool
+    ensures { λ r. ⌜ r ≡ isKind kind ⌝ }
+{
+    (kind == 1) | (kind == 2)
+}
 
 // Answers the entry of a rate in thousandths, kind 1 by year and 2 by month, and 0 for any other rate or kind.
 pub fn entry(kind: u8, rate: u16) -> u32

@@ -1,4 +1,5 @@
 pub mod Bytes
 pub mod Eight
+pub mod Fault
 pub mod Fraction
 pub mod Split

@@ -3,8 +3,8 @@ use mathlib.Core.Bool.{Bool, true, _&&_}
 use mathlib.Core.List.{List, [], _∷_}
 use Prim.Native.Nat.{ℕ, zero, suc, _+_}
 
--- The eight numbers f 0 to f 7.
-abbrev pub eight : (ℕ → ℕ) → List ℕ
+-- f 0 to f 7, one for each type.
+abbrev pub eight : {A : Type 0} → (ℕ → A) → List A
 eight f = f 0 ∷ f 1 ∷ f 2 ∷ f 3 ∷ f 4 ∷ f 5 ∷ f 6 ∷ f 7 ∷ []
 
 -- f 0 + f 1 + .. + f (k − 1)

@@ -1,3 +1,4 @@
 pub mod Fraction
 pub mod Bytes
 pub mod Eight
+pub mod Fault

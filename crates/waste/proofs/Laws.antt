@@ -5,7 +5,7 @@ use Prim.Native.Nat.{ℕ, zero, suc, _≤_, _<_, zero-le}
 use native.Mathlib.Omega.{arith}
 use lib.Dec.{T, leb, leb→le}
 use lib.ListN.{length, getD, List·getD-eq-default}
-use Rattle.waste.specs.Waste.{numbered, carbons, carbonOf, groupOf, none, rateOf, corrections, correctionOf}
+use Rattle.waste.specs.Waste.{numbered, carbons, carbonOf, mostCarbon, groupOf, none, rateOf, corrections, correctionOf}
 
 pub past-list : (xs : List ℕ) (k : ℕ) → length xs < k → 0 ≡ numbered xs k
 past-list xs k h = sym (List·getD-eq-default (0 ∷ xs) 0 h)
@@ -32,9 +32,9 @@ entry-most b [] h k = zero-le
 entry-most b (x ∷ xs) h zero = leb→le x b (h .0)
 entry-most b (x ∷ xs) h (suc k) = entry-most b xs (h .1) k
 
-pub carbon-most : (waste : ℕ) → carbonOf waste ≤ 4300
+pub carbon-most : (waste : ℕ) → carbonOf waste ≤ mostCarbon
 unfolding carbonOf
-carbon-most waste = entry-most 4300 (0 ∷ carbons) (search tt) waste
+carbon-most waste = entry-most mostCarbon (0 ∷ carbons) (search tt) waste
 
 pub correction-most : (class : ℕ) → correctionOf class ≤ 100
 unfolding correctionOf

@@ -1,8 +1,10 @@
 -- Document 01, 'Waste types and their constants'. The lists stand in the order of the fixed numbers, which saved files hold:
 -- never sort them, and never let them follow the names in any language.
+use mathlib.Core.Bool.{Bool}
 use mathlib.Core.List.{List, [], _∷_}
-use Prim.Native.Nat.{ℕ}
-use lib.ListN.{getD}
+use Prim.Native.Nat.{ℕ, _^_}
+use lib.ListN.{getD, replicate}
+use Rattle.numbers.specs.Fault.{between}
 
 -- Entry number k of a list, counted from 1, and 0 where there is none.
 abbrev pub numbered : List ℕ → ℕ → ℕ
@@ -15,7 +17,22 @@ carbons = 4300 ∷ 4000 ∷ 1500 ∷ 2400 ∷ 2000 ∷ 0 ∷ 500 ∷ 900 ∷ []
 unfoldable pub carbonOf : (waste : ℕ) → ℕ
 carbonOf waste = numbered carbons waste
 
--- Yearly rates in thousandths, by climate code: 1 boreal or temperate dry, 2 boreal or temperate wet, 3 tropical dry, 4 tropical wet.
+-- No type has more than wood.
+abbrev pub mostCarbon : ℕ
+mostCarbon = 4300
+
+-- The most of one type that a record or a cell can bring, in kilograms.
+abbrev pub massLimit : ℕ
+massLimit = 10 ^ 9
+
+-- The climates by code: 1 boreal or temperate dry, 2 boreal or temperate wet, 3 tropical dry, 4 tropical wet.
+abbrev pub climates : ℕ
+climates = 4
+
+abbrev pub isClimate : ℕ → Bool
+isClimate climate = between 1 climate climates
+
+-- Yearly rates in thousandths, by climate code.
 abbrev pub groupA : List ℕ
 groupA = 40 ∷ 60 ∷ 45 ∷ 70 ∷ []
 
@@ -30,11 +47,11 @@ groupD = 60 ∷ 185 ∷ 85 ∷ 400 ∷ []
 
 -- Pulp and paper industry sludge: 30 in every climate.
 abbrev pub alike : List ℕ
-alike = 30 ∷ 30 ∷ 30 ∷ 30 ∷ []
+alike = replicate climates 30
 
 -- No rate: inert waste, and whatever is no type.
 abbrev pub none : List ℕ
-none = 0 ∷ 0 ∷ 0 ∷ 0 ∷ []
+none = replicate climates 0
 
 -- The rate group of types 1 to 8.
 abbrev pub groupOf : ℕ → List ℕ
@@ -44,8 +61,14 @@ groupOf waste = getD (none ∷ groupB ∷ groupA ∷ groupD ∷ groupA ∷ group
 unfoldable pub rateOf : (waste climate : ℕ) → ℕ
 rateOf waste climate = numbered (groupOf waste) climate
 
--- The methane correction factor in percent, by site class: 1 anaerobic managed, 2 semi-aerobic managed, 3 unmanaged deep,
--- 4 unmanaged shallow or stockpile.
+-- The site classes by code: 1 anaerobic managed, 2 semi-aerobic managed, 3 unmanaged deep, 4 unmanaged shallow or stockpile.
+abbrev pub classes : ℕ
+classes = 4
+
+abbrev pub isClass : ℕ → Bool
+isClass class = between 1 class classes
+
+-- The methane correction factor in percent, by site class.
 abbrev pub corrections : List ℕ
 corrections = 100 ∷ 50 ∷ 80 ∷ 40 ∷ []
 

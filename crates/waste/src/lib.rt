@@ -1,28 +1,36 @@
 // The eight waste types by their fixed numbers, and the site classes: 'Waste types and their constants' of document 01.
-// The ledger looks its constants up here. A number that names no type, climate or class has 0.
+// The ledger looks its constants up here, and the door its limit. A number that names no type, climate or class has 0.
 ghost use mathlib.Core.List.{_∷_};
 ghost use mathlib.Core.Path.{_≡_};
 ghost use Prim.Native.Nat.{_+_};
 ghost use Rattle.numbers.specs.Eight.{eight};
-ghost use Rattle.waste.specs.Waste.{carbonOf, groupOf, rateOf, correctionOf};
+ghost use Rattle.waste.specs.Waste.{carbonOf, isClimate, groupOf, rateOf, isClass, correctionOf};
+
+// The most of one type that a record or a cell can bring, in kilograms.
+pub const MASS_LIMIT: u64 = 1_000_000_000;
+
+// The climates, and the site classes, by codes from 1 on.
+const CLIMATES: usize = 4;
+
+const CLASSES: usize = 4;
 
 // By number, place 0 being no type: the order is never that of a translated list.
 const CARBON: [u16; 9] = [0, 4300, 4000, 1500, 2400, 2000, 0, 500, 900];
 
-const CORRECTION: [u8; 5] = [0, 100, 50, 80, 40];
+const CORRECTION: [u8; CLASSES + 1] = [0, 100, 50, 80, 40];
 
 // Rates by climate code, place 0 being no climate.
-const GROUP_A: [u16; 5] = [0, 40, 60, 45, 70];
+const GROUP_A: [u16; CLIMATES + 1] = [0, 40, 60, 45, 70];
 
-const GROUP_B: [u16; 5] = [0, 20, 30, 25, 35];
+const GROUP_B: [u16; CLIMATES + 1] = [0, 20, 30, 25, 35];
 
-const GROUP_C: [u16; 5] = [0, 50, 100, 65, 170];
+const GROUP_C: [u16; CLIMATES + 1] = [0, 50, 100, 65, 170];
 
-const GROUP_D: [u16; 5] = [0, 60, 185, 85, 400];
+const GROUP_D: [u16; CLIMATES + 1] = [0, 60, 185, 85, 400];
 
-const ALIKE: [u16; 5] = [0, 30, 30, 30, 30];
+const ALIKE: [u16; CLIMATES + 1] = [0, 30, 30, 30, 30];
 
-const NONE: [u16; 5] = [0, 0, 0, 0, 0];
+const NONE: [u16; CLIMATES + 1] = [0; CLIMATES + 1];
 
 // Answers the carbon content (DOC) of a type, in hundredths of a percent of wet weight.
 pub fn carbon(waste: u8) -> u16
@@ -35,7 +43,7 @@ pub fn carbon(waste: u8) -> u16
 }
 
 // Answers the rates of a type, by climate code.
-fn group(waste: u8) -> [u16; 5]
+fn group(waste: u8) -> [u16; CLIMATES + 1]
     ensures { λ r. ⌜ r ≡ 0 ∷ groupOf waste ⌝ }
 {
     if waste == 1 {
@@ -62,12 +70,19 @@ fn group(waste: u8) -> [u16; 5]
     NONE
 }
 
+// Tells whether a number is a climate's code.
+pub fn is_climate(climate: u8) -> bool
+    ensures { λ r. ⌜ r ≡ isClimate climate ⌝ }
+{
+    numbers::is_between(1, climate as u64, CLIMATES as u64)
+}
+
 // Answers the yearly rate of a type in a climate, in thousandths.
 pub fn rate(waste: u8, climate: u8) -> u16
     ensures { λ r. ⌜ r ≡ rateOf waste climate ⌝ }
 {
     let rates = group(waste);
-    if climate > 4 {
+    if climate as usize > CLIMATES {
         return 0;
     }
     rates[climate as usize]
@@ -89,11 +104,18 @@ pub fn rates(climate: u8) -> [u16; 8]
     ]
 }
 
+// Tells whether a number is a site class's code.
+pub fn is_class(class: u8) -> bool
+    ensures { λ r. ⌜ r ≡ isClass class ⌝ }
+{
+    numbers::is_between(1, class as u64, CLASSES as u64)
+}
+
 // Answers the methane correction factor of a site class, in percent.
 pub fn correction(class: u8) -> u8
     ensures { λ r. ⌜ r ≡ correctionOf class ⌝ }
 {
-    if class > 4 {
+    if class as usize > CLASSES {
         return 0;
     }
     CORRECTION[class as usize]
