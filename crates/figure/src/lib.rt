@@ -1,0 +1,83 @@
+// From the releases of a record to its figure and bound: the chain of factors of 'One step' of document 01.
+// The ledger calls it, with the factors as a value.
+ghost use mathlib.Core.Bool.{cond};
+ghost use mathlib.Core.Path.{_≡_};
+ghost use Prim.Native.Nat.{_+_, _-_, _*_, _/_, _^_, _≤_};
+ghost use lib.ListN.{getD};
+ghost use Rattle.record.specs.Ranges.{inRange};
+ghost use Rattle.figure.specs.Figure.{figureOf, marginOf, BOf, boundOf};
+use record::Factors;
+
+// Answers x1: x0 after the correction factor (percent) and the capture (hundredths of a percent).
+fn kept(x0: u64, factor: u64, captured: u64) -> u64
+    requires { ⌜ (factor ≤ 100) × (captured ≤ 10000) ⌝ }
+    ensures { λ r. ⌜ r ≡ x0 * factor * (10000 - captured) / 10 ^ 6 ⌝ }
+{
+    numbers::mul_div(x0, factor * (10000 - captured), 1_000_000)
+}
+
+// Answers x2: x1 after oxidation, methane share, DOCf and the correction of the site class, each in percent.
+fn methane(x1: u64, oxidation: u64, share: u64, docf: u64, correction: u64) -> u64
+    requires { ⌜ (oxidation ≤ 100) × (share ≤ 100) × (docf ≤ 100) × (correction ≤ 100) ⌝ }
+    ensures { λ r. ⌜ r ≡ x1 * (100 - oxidation) * share * docf * correction / 10 ^ 8 ⌝ }
+{
+    numbers::mul_div(
+        x1,
+        (100 - oxidation) * share * docf * correction,
+        100_000_000,
+    )
+}
+
+// Answers the grams CO2e of a number of milligrams of carbon in methane, at a warming potential.
+fn grams(x: u64, potential: u8) -> u64
+    ensures { λ r. ⌜ (r ≡ x * 4 * potential / 3000) × (r + r ≤ x) ⌝ }
+{
+    numbers::mul_div(x, 4 * potential as u64, 3000)
+}
+
+// Answers the figure of a record whose releases add up to x0, in grams CO2e; factors that are out of range give 0.
+pub fn figure(factors: Factors, x0: u64) -> u64
+    ensures { λ r. ⌜ r ≡ cond (inRange factors) (figureOf factors x0) 0 ⌝ }
+{
+    if !factors.is_in_range() {
+        return 0;
+    }
+    let x1 = kept(x0, factors.factor as u64, factors.captured as u64);
+    let correction = waste::correction(factors.class) as u64;
+    let x2 = methane(
+        x1,
+        factors.oxidation as u64,
+        factors.methane as u64,
+        factors.docf as u64,
+        correction,
+    );
+    grams(x2, factors.potential)
+}
+
+// Answers what a type counts in B, with n records and T mg brought in.
+fn margin(n: u16, brought: u64) -> u64
+    ensures { λ r. ⌜ (r ≡ marginOf n brought) × (r ≤ 2 ^ 51) ⌝ }
+{
+    if brought == 0 {
+        return 0;
+    }
+    n as u64 + 1 + numbers::mul_div(brought, n as u64, 1_000_000_000)
+}
+
+// Answers B, what the eight types count together.
+pub fn margins(n: u16, brought: [u64; 8]) -> u64
+    ensures { λ r. ⌜ r ≡ BOf n (λ t. getD brought t 0) ⌝ }
+{
+    let mut sum = 0u64;
+    for t in 0..8 {
+        sum += margin(n, brought[t]);
+    }
+    sum
+}
+
+// Answers the bound of a record, from B, in grams CO2e.
+pub fn bound(factors: Factors, margins: u64) -> u64
+    ensures { λ r. ⌜ r ≡ boundOf factors margins ⌝ }
+{
+    3 + grams(margins, factors.potential)
+}

@@ -1,0 +1,62 @@
+// The output record of 48 bytes: 'One step' of document 01. The ledger writes it; the image of a ledger begins with the same head.
+ghost use mathlib.Core.Path.{_≡_};
+ghost use Prim.Native.Nat.{_≤_, _<_};
+ghost use lib.ListN.{length, set};
+ghost use lib.Seq.{sets};
+ghost use Rattle.output.specs.Output.{fiveOf, headed, written};
+
+// What an output record says: period, kind, climate, x0 in mg, figure and bound in grams CO2e, total R and total T in mg.
+pub struct Output {
+    pub period: u16,
+    pub kind: u8,
+    pub climate: u8,
+    pub x0: u64,
+    pub figure: u64,
+    pub bound: u64,
+    pub stock: u64,
+    pub brought: u64,
+}
+
+// Stores a byte at a place.
+fn put(out: &mut [u8], at: usize, byte: u8)
+    requires { ⌜ at < length (now out) ⌝ }
+    ensures { λ _. ⌜ now (out .exit) ≡ set (now (out .entry)) at byte ⌝ }
+{
+    out[at] = byte;
+}
+
+// Writes the first 8 bytes: period (or n), kind, climate and zeros. A buffer under 8 bytes keeps its values.
+pub fn write_head(out: &mut [u8], period: u16, kind: u8, climate: u8)
+    ensures { λ _. ⌜ now (out .exit) ≡ headed period kind climate (now (out .entry)) ⌝ }
+{
+    if out.len() < 8 {
+        return;
+    }
+    numbers::write_u16(out, 0, period as u64);
+    put(out, 2, kind);
+    put(out, 3, climate);
+    numbers::write_u32(out, 4, 0);
+}
+
+// Writes the five numbers after them.
+fn write_five(out: &mut [u8], x0: u64, figure: u64, bound: u64, stock: u64, brought: u64)
+    requires { ⌜ 48 ≤ length (now out) ⌝ }
+    ensures { λ _. ⌜ now (out .exit) ≡ sets (now (out .entry)) 8 (fiveOf x0 figure bound stock brought) ⌝ }
+{
+    numbers::write_u64(out, 8, x0);
+    numbers::write_u64(out, 16, figure);
+    numbers::write_u64(out, 24, bound);
+    numbers::write_u64(out, 32, stock);
+    numbers::write_u64(out, 40, brought);
+}
+
+// Writes an output record at the start of a buffer. A buffer under 48 bytes keeps its values.
+pub fn write(out: &mut [u8], says: Output)
+    ensures { λ _. ⌜ now (out .exit) ≡ written says (now (out .entry)) ⌝ }
+{
+    if out.len() < 48 {
+        return;
+    }
+    write_head(out, says.period, says.kind, says.climate);
+    write_five(out, says.x0, says.figure, says.bound, says.stock, says.brought);
+}

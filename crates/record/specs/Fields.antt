@@ -1,0 +1,52 @@
+-- Document 01, 'One record': what its 48 bytes say. A byte that is not there counts 0.
+use mathlib.Core.List.{List}
+use Prim.Native.Nat.{ℕ, _+_, _*_}
+use lib.ListN.{getD}
+use Rattle.numbers.specs.Bytes.{numberAt}
+use Rattle.waste.specs.Waste.{massLimit, mostCarbon, carbonOf}
+use Rattle.record.specs.declared.factors.Factors.{Factors}
+
+-- 48 bytes, and as many for an output record.
+abbrev pub recordBytes : ℕ
+recordBytes = 48
+
+module _ (bytes : List ℕ) where
+  abbrev pub periodOf : ℕ
+  periodOf = numberAt 2 bytes 0
+
+  -- 1 yearly, 2 monthly
+  abbrev pub kindOf : ℕ
+  kindOf = getD bytes 2 0
+
+  abbrev pub climateOf : ℕ
+  climateOf = getD bytes 3 0
+
+  -- The correction factor, percent; oxidation OX, methane share F and DOCf, percent; site class; warming potential GWP; captured f,
+  -- hundredths of a percent.
+  unfoldable pub factorsOf : Factors
+  factorsOf =
+      record {
+        factor = getD bytes 4 0;
+        oxidation = getD bytes 5 0;
+        methane = getD bytes 6 0;
+        docf = getD bytes 7 0;
+        class = getD bytes 8 0;
+        potential = getD bytes 9 0;
+        captured = numberAt 2 bytes 10;
+      }
+
+  -- bytes 12 to 15, which are to be zero
+  unfoldable pub zerosOf : ℕ
+  zerosOf = numberAt 4 bytes 12
+
+  -- the mass at place t, in kg; 0 means nothing was brought
+  unfoldable pub massOf : (t : ℕ) → ℕ
+  massOf t = numberAt 4 bytes (16 + 4 * t)
+
+  -- 'One step': deposit = mass × DOC × 100 mg
+  unfoldable pub depositOf : (t : ℕ) → ℕ
+  depositOf t = massOf t * carbonOf (t + 1) * 100
+
+-- The most that one deposit can be, in mg.
+abbrev pub mostDeposit : ℕ
+mostDeposit = massLimit * mostCarbon * 100

@@ -1,0 +1,32 @@
+-- Document 01, 'One record', what is allowed, as 'Refusal numbers' 5, 8 and 9 test it.
+use mathlib.Core.Bool.{Bool}
+use mathlib.Core.List.{List, [], _∷_}
+use Prim.Native.Nat.{ℕ}
+use lib.Dec.{eqb, leb}
+use Rattle.numbers.specs.Eight.{allOf}
+use Rattle.numbers.specs.Fault.{between}
+use Rattle.decay.specs.Series.{isKind}
+use Rattle.waste.specs.Waste.{massLimit, isClimate, isClass}
+use Rattle.record.specs.Fields.{kindOf, climateOf, factorsOf, zerosOf, massOf}
+use Rattle.record.specs.declared.factors.Factors.{Factors}
+
+-- Kind, climate and class are codes, and bytes 12-15 are all 0.
+unfoldable pub coded : List ℕ → Bool
+coded bytes =
+    allOf (isKind (kindOf bytes) ∷ isClimate (climateOf bytes) ∷ isClass (factorsOf bytes .class) ∷ eqb (zerosOf bytes) 0 ∷ [])
+
+-- The factors, class aside, are within their ranges.
+unfoldable pub inRange : Factors → Bool
+inRange v =
+    allOf (
+    between 1 (v .factor) 100
+    ∷ leb (v .oxidation) 100
+    ∷ leb (v .methane) 100
+    ∷ leb (v .docf) 100
+    ∷ between 1 (v .potential) 100
+    ∷ leb (v .captured) 10000
+    ∷ [])
+
+-- The mass at place t is at most 10^9.
+unfoldable pub light : List ℕ → (t : ℕ) → Bool
+light bytes t = leb (massOf bytes t) massLimit

@@ -1,0 +1,61 @@
+// The other fields of a record, what is allowed in them, and the carbon of a mass.
+ghost use mathlib.Core.Path.{_≡_};
+ghost use Rattle.record.specs.Fields.{periodOf, kindOf, climateOf, massOf, depositOf};
+ghost use Rattle.record.specs.Ranges.{coded, light};
+use crate::bytes::byte;
+use crate::bytes::four;
+use crate::bytes::two;
+
+// Answers the period's number.
+pub fn period(bytes: &[u8]) -> u16
+    ensures { λ r. ⌜ r ≡ periodOf (now (bytes .entry)) ⌝ }
+{
+    two(bytes, 0)
+}
+
+// Answers the kind: 1 yearly, 2 monthly.
+pub fn kind(bytes: &[u8]) -> u8
+    ensures { λ r. ⌜ r ≡ kindOf (now (bytes .entry)) ⌝ }
+{
+    byte(bytes, 2)
+}
+
+// Answers the climate.
+pub fn climate(bytes: &[u8]) -> u8
+    ensures { λ r. ⌜ r ≡ climateOf (now (bytes .entry)) ⌝ }
+{
+    byte(bytes, 3)
+}
+
+// Tells whether kind, climate and class are codes and bytes 12 to 15 are zero.
+pub fn is_coded(bytes: &[u8]) -> bool
+    ensures { λ r. ⌜ r ≡ coded (now (bytes .entry)) ⌝ }
+{
+    let class = waste::is_class(byte(bytes, 8)) & (four(bytes, 12) == 0);
+    let climate = waste::is_climate(climate(bytes)) & class;
+    decay::is_kind(kind(bytes)) & climate
+}
+
+// Answers the mass at place t, in kg.
+fn mass(bytes: &[u8], t: u8) -> u32
+    ensures { λ r. ⌜ r ≡ massOf (now (bytes .entry)) t ⌝ }
+{
+    four(bytes, 16 + 4 * t as usize)
+}
+
+// Tells whether the mass at place t is at most the limit.
+pub fn is_light(bytes: &[u8], t: u8) -> bool
+    ensures { λ r. ⌜ r ≡ light (now (bytes .entry)) t ⌝ }
+{
+    mass(bytes, t) as u64 <= waste::MASS_LIMIT
+}
+
+// Answers the carbon that the mass at place t brings, in mg; place 0 has type 1.
+pub fn deposit(bytes: &[u8], t: u8) -> u64
+    ensures { λ r. ⌜ r ≡ depositOf (now (bytes .entry)) t ⌝ }
+{
+    if t > 7 {
+        return 0;
+    }
+    mass(bytes, t) as u64 * waste::carbon(t + 1) as u64 * 100
+}
