@@ -1,6 +1,5 @@
-pub mod Shares
-pub mod Ranged
 pub mod Sound
+pub mod Step
 pub mod Accepted
 pub mod Settle
 pub mod Take

@@ -12,35 +12,35 @@ use lib.ListN.{getD}
 use Rattle.numbers.specs.Eight.{everyOf, allOf}
 use Rattle.numbers.proofs.Eight.{both-true, all-true, every-at, every-each, every-same}
 use Rattle.decay.specs.Series.{isKind}
-use Rattle.waste.specs.Waste.{carbonOf}
+use Rattle.waste.specs.Waste.{massLimit, mostCarbon, carbonOf, isClimate}
 use Rattle.waste.proofs.Laws.{carbon-most}
-use Rattle.ledger.specs.Stock.{broughtAt, stockAt}
-use Rattle.ledger.specs.Refusal.{sound, allZero, inOrder, emptyAt, withinAt, ceilingOf, between}
+use Rattle.ledger.specs.Stock.{mostRecords, mostBrought, broughtAt, stockAt}
+use Rattle.ledger.specs.Refusal.{sound, allZero, inOrder, emptyAt, withinAt, ceilingOf}
 use Rattle.ledger.specs.declared.book.Ledger.{Ledger}
 
--- Of each type R is at most T and T at most its ceiling, which is at most 5.16 × 10^17 mg.
-pub record Within (l : Ledger) (t : ℕ) : Type 0 where
+-- Of each type R is at most T, and T at most its ceiling, which is at most that of wood.
+pub record WithinCeiling (l : Ledger) (t : ℕ) : Type 0 where
   pub kept : stockAt l t ≤ broughtAt l t
-  pub exact : broughtAt l t ≤ ceilingOf (l .n) t
-  pub small : broughtAt l t ≤ 516 * 10 ^ 15
+  pub ceiling : broughtAt l t ≤ ceilingOf (l .n) t
+  pub small : broughtAt l t ≤ mostBrought
 
-ceiling-most : (n t : ℕ) → n ≤ 1200 → ceilingOf n t ≤ 516 * 10 ^ 15
+ceiling-most : (n t : ℕ) → n ≤ mostRecords → ceilingOf n t ≤ mostBrought
 unfolding ceilingOf
 ceiling-most n t h =
-    let m : n * 10 ^ 9 * carbonOf (t + 1) ≤ 1200 * 10 ^ 9 * 4300
-    = mul-le-mul {n₂ = 1200 * 10 ^ 9} {m₂ = 4300} (omega arith) (carbon-most (t + 1)) in
+    let m : n * massLimit * carbonOf (t + 1) ≤ mostRecords * massLimit * mostCarbon
+    = mul-le-mul {n₂ = mostRecords * massLimit} {m₂ = mostCarbon} (omega arith) (carbon-most (t + 1)) in
     omega arith
 
-within : (l : Ledger) (t : ℕ) → l .n ≤ 1200 → stockAt l t ≤ broughtAt l t → broughtAt l t ≤ ceilingOf (l .n) t → Within l t
-within l t few kept high = record { kept = kept; exact = high; small = omega (arith, ceiling-most (l .n) t few) }
+within : (l : Ledger) (t : ℕ) → l .n ≤ mostRecords → stockAt l t ≤ broughtAt l t → broughtAt l t ≤ ceilingOf (l .n) t → WithinCeiling l t
+within l t few kept high = record { kept = kept; ceiling = high; small = omega (arith, ceiling-most (l .n) t few) }
 
 pub record Sound (l : Ledger) : Type 0 where
-  pub few : l .n ≤ 1200
-  pub at : (t : ℕ) → t < 8 → Within l t
-  pub coded : (l .n ≡ 0 → ⊥) → (isKind (l .kind) ≡ true) × (between 1 (l .climate) 4 ≡ true)
+  pub few : l .n ≤ mostRecords
+  pub at : (t : ℕ) → t < 8 → WithinCeiling l t
+  pub coded : (l .n ≡ 0 → ⊥) → (isKind (l .kind) ≡ true) × (isClimate (l .climate) ≡ true)
 
 -- a ledger with no records
-empty : (l : Ledger) → l .n ≤ 1200 → l .n ≡ 0 → allZero l ≡ true → Sound l
+empty : (l : Ledger) → l .n ≤ mostRecords → l .n ≡ 0 → allZero l ≡ true → Sound l
 unfolding allZero emptyAt
 empty l few z e =
     let p = all-true (eqb (l .kind) 0 ∷ eqb (l .climate) 0 ∷ everyOf (emptyAt l) 8 ∷ []) e in
@@ -54,10 +54,10 @@ empty l few z e =
     }
 
 -- a ledger with some
-ordered : (l : Ledger) → l .n ≤ 1200 → inOrder l ≡ true → Sound l
+ordered : (l : Ledger) → l .n ≤ mostRecords → inOrder l ≡ true → Sound l
 unfolding inOrder withinAt
 ordered l few e =
-    let p = all-true (isKind (l .kind) ∷ between 1 (l .climate) 4 ∷ everyOf (withinAt l) 8 ∷ []) e in
+    let p = all-true (isKind (l .kind) ∷ isClimate (l .climate) ∷ everyOf (withinAt l) 8 ∷ []) e in
     let at : (t : ℕ) → t < 8 → (leb (broughtAt l t) (ceilingOf (l .n) t) ≡ true) × (leb (stockAt l t) (broughtAt l t) ≡ true)
     = λ t h. both-true (leb (broughtAt l t) (ceilingOf (l .n) t)) (leb (stockAt l t) (broughtAt l t)) (every-at (withinAt l) 8 t h (p .1 .1 .0)) in
     record {
@@ -69,21 +69,21 @@ ordered l few e =
 pub sound-is : (l : Ledger) → sound l ≡ true → Sound l
 unfolding sound
 sound-is l e =
-    let p = both-true (leb (l .n) 1200) (cond (eqb (l .n) 0) (allZero l) (inOrder l)) e in
-    let few : l .n ≤ 1200 = leb-true (l .n) 1200 (p .0) in
+    let p = both-true (leb (l .n) mostRecords) (cond (eqb (l .n) 0) (allZero l) (inOrder l)) e in
+    let few : l .n ≤ mostRecords = leb-true (l .n) mostRecords (p .0) in
     elim (ℕ-discrete (l .n) 0) [
       | yes z ↦ empty l few z (simp (eq-eqb (l .n) 0 z) at (p .1))
       | no z ↦ ordered l few (simp (ne-eqb (l .n) 0 z) at (p .1))
     ]
 
 -- A ledger with records, in order, is sound.
-pub is-sound : (l : Ledger) → l .n ≤ 1200 → (l .n ≡ 0 → ⊥) → isKind (l .kind) ≡ true → between 1 (l .climate) 4 ≡ true
+pub is-sound : (l : Ledger) → l .n ≤ mostRecords → (l .n ≡ 0 → ⊥) → isKind (l .kind) ≡ true → isClimate (l .climate) ≡ true
     → ((t : ℕ) → t < 8 → (stockAt l t ≤ broughtAt l t) × (broughtAt l t ≤ ceilingOf (l .n) t)) → sound l ≡ true
 unfolding sound inOrder withinAt
 is-sound l few some kind climate at =
     let every : everyOf (withinAt l) 8 ≡ true
     = every-each (withinAt l) 8 (λ t h. simp (le-leb (broughtAt l t) (ceilingOf (l .n) t) (at t h .1), le-leb (stockAt l t) (broughtAt l t) (at t h .0))) in
-    simp (le-leb (l .n) 1200 few, ne-eqb (l .n) 0 some, kind, climate, every)
+    simp (le-leb (l .n) mostRecords few, ne-eqb (l .n) 0 some, kind, climate, every)
 
 -- With no records T and R within a ceiling of 0 are T and R of 0, so one test over the types serves every sound ledger.
 none-within : (T R : ℕ) → (leb T 0 && leb R T) ≡ (eqb T 0 && eqb R 0)
@@ -95,11 +95,11 @@ same : (l : Ledger) (t : ℕ) → l .n ≡ 0 → withinAt l t ≡ emptyAt l t
 unfolding withinAt emptyAt ceilingOf
 same l t z = simp (z, zero-mul) (none-within (broughtAt l t) (stockAt l t))
 
-pub sound-tests : (l : Ledger) → l .n ≤ 1200
-    → sound l ≡ (cond (eqb (l .n) 0) (eqb (l .kind) 0 && eqb (l .climate) 0) (isKind (l .kind) && between 1 (l .climate) 4) && everyOf (withinAt l) 8)
+pub sound-tests : (l : Ledger) → l .n ≤ mostRecords
+    → sound l ≡ (cond (eqb (l .n) 0) (eqb (l .kind) 0 && eqb (l .climate) 0) (isKind (l .kind) && isClimate (l .climate)) && everyOf (withinAt l) 8)
 unfolding sound allZero inOrder
 sound-tests l few =
     elim (ℕ-discrete (l .n) 0) [
-      | yes z ↦ simp (le-leb (l .n) 1200 few, eq-eqb (l .n) 0 z, every-same (withinAt l) (emptyAt l) 8 (λ t h. same l t z), and-true, ← and-assoc)
-      | no z ↦ simp (le-leb (l .n) 1200 few, ne-eqb (l .n) 0 z, and-true, ← and-assoc)
+      | yes z ↦ simp (le-leb (l .n) mostRecords few, eq-eqb (l .n) 0 z, every-same (withinAt l) (emptyAt l) 8 (λ t h. same l t z), and-true, ← and-assoc)
+      | no z ↦ simp (le-leb (l .n) mostRecords few, ne-eqb (l .n) 0 z, and-true, ← and-assoc)
     ]

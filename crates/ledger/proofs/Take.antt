@@ -7,7 +7,7 @@ use borrow.Author.Tests.{ne-eqb}
 use lib.ListN.{length}
 use Rattle.ledger.specs.Stock.{after}
 use Rattle.ledger.specs.Refusal.{refusalOf}
-use Rattle.ledger.specs.Output.{outputOf}
+use Rattle.output.specs.Output.{outputOf}
 use Rattle.ledger.specs.Take.{acceptedOf, refusedOf, takeOf, writtenOf, outputRecord}
 use Rattle.ledger.specs.declared.book.Ledger.{Ledger}
 use Rattle.ledger.specs.declared.answer.Answer.{Answer}

@@ -1,6 +1,4 @@
-pub mod Fields
 pub mod Stock
-pub mod Figure
-pub mod Output
 pub mod Refusal
 pub mod Take
+pub mod History

@@ -4,10 +4,18 @@ use Prim.Native.Nat.{ℕ, _+_, _-_, _*_, _/_, _^_}
 use lib.ListN.{getD}
 use Rattle.numbers.specs.Eight.{eight}
 use Rattle.decay.specs.Series.{entryOf}
-use Rattle.waste.specs.Waste.{carbonOf, rateOf}
-use Rattle.ledger.specs.Fields.{kindOf, climateOf, massOf}
+use Rattle.waste.specs.Waste.{rateOf}
+use Rattle.record.specs.Fields.{kindOf, climateOf, depositOf, mostDeposit}
 use Rattle.ledger.specs.declared.book.Ledger.{Ledger}
 use Rattle.ledger.specs.declared.stock.Decayed.{Decayed}
+
+-- At most 1200 records.
+abbrev pub mostRecords : ℕ
+mostRecords = 1200
+
+-- The most that T of one type can be.
+abbrev pub mostBrought : ℕ
+mostBrought = mostRecords * mostDeposit
 
 -- A fresh ledger is all zero.
 unfoldable pub fresh : Ledger
@@ -24,26 +32,19 @@ stockAt l t = getD (l .stock) t 0
 unfoldable pub entryAt : (kind climate t : ℕ) → ℕ
 entryAt kind climate t = entryOf kind (rateOf (t + 1) climate)
 
--- deposit = mass × DOC × 100 mg
-unfoldable pub depositOf : (mass t : ℕ) → ℕ
-depositOf mass t = mass * carbonOf (t + 1) * 100
-
 -- R becomes H × D / 10^9 rounded down.
 unfoldable pub leftOf : (H D : ℕ) → ℕ
 leftOf H D = H * D / 10 ^ 9
 
--- What an accepted record brings at place t, and what it makes of the ledger l:
-unfoldable pub deposit : (bytes : List ℕ) (t : ℕ) → ℕ
-deposit bytes t = depositOf (massOf bytes t) t
-
+-- What an accepted record makes of the ledger l at place t:
 module _ (l : Ledger) (bytes : List ℕ) (t : ℕ) where
   -- the deposit is added to T;
   unfoldable pub newBrought : ℕ
-  newBrought = broughtAt l t + deposit bytes t
+  newBrought = broughtAt l t + depositOf bytes t
 
   -- H = R + deposit: new waste decays in its own period;
   unfoldable pub held : ℕ
-  held = stockAt l t + deposit bytes t
+  held = stockAt l t + depositOf bytes t
 
   unfoldable pub newStock : ℕ
   newStock = leftOf held (entryAt (kindOf bytes) (climateOf bytes) t)
@@ -55,6 +56,10 @@ module _ (l : Ledger) (bytes : List ℕ) (t : ℕ) where
 -- What place t then has.
 unfoldable pub decayedAt : Ledger → List ℕ → (t : ℕ) → Decayed
 decayedAt l bytes t = record { brought = newBrought l bytes t; stock = newStock l bytes t; release = release l bytes t }
+
+-- What a place has that is not there.
+abbrev pub nothing : Decayed
+nothing = record { brought = 0; stock = 0; release = 0 }
 
 -- n grows by one, kind and climate become the record's.
 unfoldable pub after : Ledger → List ℕ → Ledger

@@ -4,17 +4,21 @@ use mathlib.Core.List.{List, _++_}
 use Prim.Native.Nat.{ℕ}
 use lib.Dec.{eqb}
 use lib.ListN.{length, drop}
-use Rattle.numbers.specs.Eight.{eight}
-use Rattle.ledger.specs.Fields.{recordBytes}
-use Rattle.ledger.specs.Stock.{release, after}
-use Rattle.ledger.specs.Figure.{x0Of, figureOf, BOf, boundOf}
-use Rattle.ledger.specs.Output.{outputOf, totalStock, totalBrought}
+use Rattle.numbers.specs.Eight.{eight, sumOf}
+use Rattle.record.specs.Fields.{recordBytes, factorsOf}
+use Rattle.figure.specs.Figure.{figureOf, BOf, boundOf}
+use Rattle.output.specs.Output.{outputOf}
+use Rattle.ledger.specs.Stock.{broughtAt, stockAt, release, after}
 use Rattle.ledger.specs.Refusal.{refusalOf, sound}
 use Rattle.ledger.specs.declared.book.Ledger.{Ledger}
 use Rattle.ledger.specs.declared.answer.Answer.{Answer}
 use Rattle.ledger.specs.declared.answer.Totals.{Totals}
 
--- Accepted: the ledger after the record, the eight releases, x0, figure and bound.
+-- x0 = the eight releases added.
+unfoldable pub x0Of : Ledger → List ℕ → ℕ
+x0Of l bytes = sumOf (release l bytes) 8
+
+-- Accepted: the ledger after the record, the eight releases, x0, figure and bound, with n and T as they stand after the record.
 unfoldable pub acceptedOf : Ledger → List ℕ → Answer
 acceptedOf l bytes =
     record {
@@ -22,8 +26,8 @@ acceptedOf l bytes =
       refusal = 0;
       releases = eight (release l bytes);
       x0 = x0Of l bytes;
-      figure = figureOf bytes (x0Of l bytes);
-      bound = boundOf bytes (BOf (after l bytes));
+      figure = figureOf (factorsOf bytes) (x0Of l bytes);
+      bound = boundOf (factorsOf bytes) (BOf (after l bytes .n) (broughtAt (after l bytes)));
     }
 
 -- Refused: the ledger comes back as handed in; releases and numbers are 0.
@@ -34,9 +38,27 @@ refusedOf l refusal = record { ledger = l; refusal = refusal; releases = eight (
 unfoldable pub takeOf : Ledger → List ℕ → (room : ℕ) → Answer
 takeOf l bytes room = cond (eqb (refusalOf l bytes room) 0) (acceptedOf l bytes) (refusedOf l (refusalOf l bytes room))
 
--- The output record of an answer.
+-- Total R and total T.
+unfoldable pub totalStock : Ledger → ℕ
+totalStock l = sumOf (stockAt l) 8
+
+unfoldable pub totalBrought : Ledger → ℕ
+totalBrought l = sumOf (broughtAt l) 8
+
+-- The output record of an answer; its period is the n of the ledger after the record, which the record's period equals.
 unfoldable pub outputRecord : Answer → List ℕ
-outputRecord a = outputOf (a .ledger) (a .x0) (a .figure) (a .bound)
+outputRecord a =
+    outputOf (
+    record {
+      period = a .ledger .n;
+      kind = a .ledger .kind;
+      climate = a .ledger .climate;
+      x0 = a .x0;
+      figure = a .figure;
+      bound = a .bound;
+      stock = totalStock (a .ledger);
+      brought = totalBrought (a .ledger);
+    })
 
 -- Accepted: 48 bytes are written, the rest of the slice keeps its value. Refused: every output byte keeps its value.
 unfoldable pub writtenOf : Ledger → List ℕ → (out : List ℕ) → List ℕ

@@ -1,23 +1,25 @@
 // The ledger, from value to value.
-ghost use mathlib.Core.Bool.{cond, true, _&&_};
+ghost use mathlib.Core.Bool.{cond, _&&_};
+ghost use mathlib.Core.List.{_++_};
 ghost use mathlib.Core.Path.{_≡_};
 ghost use Prim.Native.Nat.{_≤_, _<_};
-ghost use lib.Dec.{eqb};
-ghost use lib.ListN.{length, take};
+ghost use lib.Dec.{eqb, leb};
+ghost use lib.ListN.{length, drop};
 ghost use Rattle.numbers.specs.Eight.{eight, everyOf};
+ghost use Rattle.numbers.specs.Fault.{firstOf, ahead};
 ghost use Rattle.decay.specs.Series.{isKind};
-ghost use Rattle.ledger.specs.Fields.{kindOf, climateOf};
-ghost use Rattle.ledger.specs.Stock.{fresh, entryAt, decayedAt};
-ghost use Rattle.ledger.specs.Refusal.{between, withinAt, sound, faultsOf, firstFrom, refusalOf};
-ghost use Rattle.ledger.specs.Take.{acceptedOf, takeOf, writtenOf, totalsOf};
+ghost use Rattle.waste.specs.Waste.{isClimate};
+ghost use Rattle.record.specs.Fields.{kindOf, climateOf};
+ghost use Rattle.record.specs.Ranges.{light};
+ghost use Rattle.ledger.specs.Stock.{mostRecords, fresh, entryAt, decayedAt};
+ghost use Rattle.ledger.specs.Refusal.{ceilingOf, withinAt, sound, continues, faultsOf, refusalOf};
+ghost use Rattle.ledger.specs.Take.{acceptedOf, outputRecord, takeOf, writtenOf, totalsOf};
 use crate::answer::Answer;
 use crate::answer::Totals;
-use crate::figure;
-use crate::output;
-use crate::refusal;
 use crate::stock;
-use crate::stock::AllDecayed;
 use crate::stock::Decayed;
+use output::Output;
+use record::Factors;
 
 // One site's ledger: the number n of accepted records, their kind and climate, and for each type the carbon brought in (T)
 // and the carbon left (R), in whole milligrams. Place 0 of a list is type 1.
@@ -29,13 +31,34 @@ pub struct Ledger {
     pub stock: [u64; 8],
 }
 
+// Tells whether the T and R of place t are within what n records can bring.
+fn is_within(n: u64, brought: u64, stock: u64, t: usize) -> bool
+    requires { ⌜ (n ≤ mostRecords) × (t < 8) ⌝ }
+    ensures { λ r. ⌜ r ≡ (leb brought (ceilingOf n t) && leb stock brought) ⌝ }
+{
+    let ceiling = n * Ledger::MASS_LIMIT * waste::carbon(t as u8 + 1) as u64 * 100;
+    (brought <= ceiling) & (stock <= brought)
+}
+
+// Tells whether every mass of a record is at most the limit.
+fn all_light(bytes: &[u8]) -> bool
+    ensures { λ r. ⌜ r ≡ everyOf (light (now (bytes .entry))) 8 ⌝ }
+{
+    for t in 0..8u8 {
+        if !record::is_light(bytes, t) {
+            return false;
+        }
+    }
+    true
+}
+
 impl Ledger {
     // The most records that a ledger takes.
     pub const RECORDS: u16 = 1200;
     // The bytes of a record, and of an output record.
-    pub const BYTES: usize = 48;
+    pub const BYTES: usize = record::BYTES;
     // The largest mass of one type in one record, in kilograms.
-    pub const MASS_LIMIT: u64 = 1_000_000_000;
+    pub const MASS_LIMIT: u64 = waste::MASS_LIMIT;
 
     // Answers a ledger with no records.
     pub fn fresh() -> Ledger
@@ -52,22 +75,21 @@ impl Ledger {
 
     // Tells whether kind and climate are zero with no records, and codes with some.
     fn is_coded(self) -> bool
-        ensures { λ r. ⌜ r ≡ cond (eqb (self .n) 0) (eqb (self .kind) 0 && eqb (self .climate) 0) (isKind (self .kind) && between 1 (self .climate) 4) ⌝ }
+        ensures { λ r. ⌜ r ≡ cond (eqb (self .n) 0) (eqb (self .kind) 0 && eqb (self .climate) 0) (isKind (self .kind) && isClimate (self .climate)) ⌝ }
     {
         if self.n == 0 {
-            return refusal::both(self.kind == 0, self.climate == 0);
+            return (self.kind == 0) & (self.climate == 0);
         }
-        let kind = refusal::is_kind(self.kind as u64);
-        refusal::both(kind, refusal::within(1, self.climate as u64, 4))
+        decay::is_kind(self.kind) & waste::is_climate(self.climate)
     }
 
     // Tells whether every T and R is within what n records can bring.
     fn all_within(self) -> bool
-        requires { ⌜ self .n ≤ 1200 ⌝ }
+        requires { ⌜ self .n ≤ mostRecords ⌝ }
         ensures { λ r. ⌜ r ≡ everyOf (withinAt self) 8 ⌝ }
     {
         for t in 0..8 {
-            if !refusal::is_within(self.n as u64, self.brought[t], self.stock[t], t) {
+            if !is_within(self.n as u64, self.brought[t], self.stock[t], t) {
                 return false;
             }
         }
@@ -81,45 +103,68 @@ impl Ledger {
         if self.n > Ledger::RECORDS {
             return false;
         }
-        refusal::both(self.is_coded(), self.all_within())
+        self.is_coded() & self.all_within()
+    }
+
+    // Tells whether a record has the ledger's kind and climate.
+    fn is_continued(self, bytes: &[u8]) -> bool
+        ensures { λ r. ⌜ r ≡ continues self (now (bytes .entry)) ⌝ }
+    {
+        (record::kind(bytes) == self.kind) & (record::climate(bytes) == self.climate)
+    }
+
+    // Answers the refusal that everything ahead of the masses (9) decides, 0 if none; `good` says whether the ledger is sound.
+    pub(crate) fn early_refusal(self, good: bool, bytes: &[u8], room: usize) -> u8
+        ensures { λ r. ⌜ r ≡ firstOf (ahead 9 (faultsOf good self (now (bytes .entry)) room)) ⌝ }
+    {
+        if bytes.len() != Ledger::BYTES {
+            return 1;
+        }
+        if room < Ledger::BYTES {
+            return 2;
+        }
+        if !good {
+            return 3;
+        }
+        if self.n == Ledger::RECORDS {
+            return 4;
+        }
+        if !record::is_coded(bytes) {
+            return 5;
+        }
+        if record::period(bytes) as u64 != self.n as u64 + 1 {
+            return 6;
+        }
+        if (self.n > 0) & !self.is_continued(bytes) {
+            return 7;
+        }
+        if !Factors::of(bytes).is_in_range() {
+            return 8;
+        }
+        0
     }
 
     // Answers the refusal of a record with room for so many bytes of output, 0 if none.
-    pub fn refusal(self, record: &[u8], room: usize) -> u8
-        ensures { λ r. ⌜ r ≡ refusalOf self (now («record» .entry)) room ⌝ }
+    pub fn refusal(self, bytes: &[u8], room: usize) -> u8
+        ensures { λ r. ⌜ r ≡ refusalOf self (now (bytes .entry)) room ⌝ }
     {
-        let early = self.early_refusal(self.is_sound(), record, room);
+        let early = self.early_refusal(self.is_sound(), bytes, room);
         if early != 0 {
             return early;
         }
-        refusal::fault(!refusal::all_light(record), 9, 0)
-    }
-
-    // Answers the refusal that everything but the masses decides, 1 to 8, or 0; `good` says whether the ledger is sound.
-    pub fn early_refusal(self, good: bool, record: &[u8], room: usize) -> u8
-        ensures { λ r. ⌜ r ≡ firstFrom 1 (take 8 (faultsOf good self (now («record» .entry)) room)) ⌝ }
-    {
-        if record.len() != Ledger::BYTES {
-            return 1;
+        if !all_light(bytes) {
+            return 9;
         }
-        let n = self.n as u64;
-        let eighth = refusal::fault(!refusal::is_in_range(record), 8, 0);
-        let other = !refusal::both(record[2] == self.kind, record[3] == self.climate);
-        let seventh = refusal::fault(refusal::both(0 < n, other), 7, eighth);
-        let sixth = refusal::fault(numbers::read_u16(record, 0) != n + 1, 6, seventh);
-        let fifth = refusal::fault(!refusal::is_coded(record), 5, sixth);
-        let fourth = refusal::fault(self.n == Ledger::RECORDS, 4, fifth);
-        let third = refusal::fault(!good, 3, fourth);
-        refusal::fault(room < Ledger::BYTES, 2, third)
+        0
     }
 
     // Decays one type: answers what place t has after an accepted record, given the table entries of its kind and climate.
-    fn decay(self, entries: [u32; 8], record: &[u8], t: usize) -> Decayed
-        requires { ⌜ (refusalOf self (now «record») 48 ≡ 0) × (t < 8) ⌝ }
-        requires { ⌜ entries ≡ eight (entryAt (kindOf (now «record»)) (climateOf (now «record»))) ⌝ }
-        ensures { λ r. ⌜ r ≡ decayedAt self (now («record» .entry)) t ⌝ }
+    fn decay(self, entries: [u32; 8], bytes: &[u8], t: usize) -> Decayed
+        requires { ⌜ (refusalOf self (now bytes) 48 ≡ 0) × (t < 8) ⌝ }
+        requires { ⌜ entries ≡ eight (entryAt (kindOf (now bytes)) (climateOf (now bytes))) ⌝ }
+        ensures { λ r. ⌜ r ≡ decayedAt self (now (bytes .entry)) t ⌝ }
     {
-        let deposit = stock::deposit(numbers::read_u32(record, 16 + 4 * t), t);
+        let deposit = record::deposit(bytes, t as u8);
         let held = self.stock[t] + deposit;
         let left = stock::left(held, entries[t]);
         Decayed {
@@ -129,80 +174,76 @@ impl Ledger {
         }
     }
 
-    // Decays every type, one by one, so that no copy of the ledger is made for a place that is only known at run time.
-    fn decay_all(self, entries: [u32; 8], record: &[u8]) -> AllDecayed
-        requires { ⌜ refusalOf self (now «record») 48 ≡ 0 ⌝ }
-        requires { ⌜ entries ≡ eight (entryAt (kindOf (now «record»)) (climateOf (now «record»))) ⌝ }
-        ensures { λ r. ⌜ (r .one ≡ decayedAt self (now («record» .entry)) 0)
-            × (r .two ≡ decayedAt self (now («record» .entry)) 1)
-            × (r .three ≡ decayedAt self (now («record» .entry)) 2)
-            × (r .four ≡ decayedAt self (now («record» .entry)) 3)
-            × (r .five ≡ decayedAt self (now («record» .entry)) 4)
-            × (r .six ≡ decayedAt self (now («record» .entry)) 5)
-            × (r .seven ≡ decayedAt self (now («record» .entry)) 6)
-            × (r .eight ≡ decayedAt self (now («record» .entry)) 7) ⌝ }
+    // Decays every type; each place is written out, so that no copy of the ledger is made for one known only at run time.
+    fn decay_all(self, entries: [u32; 8], bytes: &[u8]) -> [Decayed; 8]
+        requires { ⌜ refusalOf self (now bytes) 48 ≡ 0 ⌝ }
+        requires { ⌜ entries ≡ eight (entryAt (kindOf (now bytes)) (climateOf (now bytes))) ⌝ }
+        ensures { λ r. ⌜ r ≡ eight (decayedAt self (now (bytes .entry))) ⌝ }
     {
-        AllDecayed {
-            one: self.decay(entries, record, 0),
-            two: self.decay(entries, record, 1),
-            three: self.decay(entries, record, 2),
-            four: self.decay(entries, record, 3),
-            five: self.decay(entries, record, 4),
-            six: self.decay(entries, record, 5),
-            seven: self.decay(entries, record, 6),
-            eight: self.decay(entries, record, 7),
-        }
+        [
+            self.decay(entries, bytes, 0),
+            self.decay(entries, bytes, 1),
+            self.decay(entries, bytes, 2),
+            self.decay(entries, bytes, 3),
+            self.decay(entries, bytes, 4),
+            self.decay(entries, bytes, 5),
+            self.decay(entries, bytes, 6),
+            self.decay(entries, bytes, 7),
+        ]
     }
 
     // Answers an accepted record, given the table entries of its kind and climate.
-    pub fn account(self, entries: [u32; 8], record: &[u8]) -> Answer
-        requires { ⌜ refusalOf self (now «record») 48 ≡ 0 ⌝ }
-        requires { ⌜ entries ≡ eight (entryAt (kindOf (now «record»)) (climateOf (now «record»))) ⌝ }
-        ensures { λ r. ⌜ r ≡ acceptedOf self (now («record» .entry)) ⌝ }
+    fn account(self, entries: [u32; 8], bytes: &[u8]) -> Answer
+        requires { ⌜ refusalOf self (now bytes) 48 ≡ 0 ⌝ }
+        requires { ⌜ entries ≡ eight (entryAt (kindOf (now bytes)) (climateOf (now bytes))) ⌝ }
+        ensures { λ r. ⌜ r ≡ acceptedOf self (now (bytes .entry)) ⌝ }
     {
-        let all = self.decay_all(entries, record);
-        let brought = all.brought();
-        let releases = all.releases();
-        let x0 = output::total(releases);
-        let margins = figure::margins(self.n as u64 + 1, brought);
+        let all = self.decay_all(entries, bytes);
+        let brought = stock::brought(all);
+        let releases = stock::releases(all);
+        let x0 = stock::total(releases);
+        let factors = Factors::of(bytes);
+        let n = self.n + 1;
         let ledger = Ledger {
-            n: self.n + 1,
-            kind: record[2],
-            climate: record[3],
+            n,
+            kind: record::kind(bytes),
+            climate: record::climate(bytes),
             brought: brought,
-            stock: all.stock(),
+            stock: stock::stocks(all),
         };
         Answer {
             ledger,
             refusal: 0,
             releases,
             x0,
-            figure: figure::figure(record, x0),
-            bound: figure::bound(record, margins),
+            figure: figure::figure(factors, x0),
+            bound: figure::bound(factors, figure::margins(n, brought)),
         }
     }
 
-    // Takes one record: answers the ledger after it, its releases, figure and bound, and writes its output record at the start
-    // of the output; or refuses it by number, and leaves the ledger and the output as they are.
-    pub fn take(self, record: &[u8], out: &mut [u8]) -> Answer
-        ensures { λ r. ⌜ r ≡ takeOf self (now («record» .entry)) (length (now (out .entry))) ⌝ }
-        ensures { λ _. ⌜ now (out .exit) ≡ writtenOf self (now («record» .entry)) (now (out .entry)) ⌝ }
+    // Enters an accepted record: answers the ledger after it, and writes its output record at the start of the output.
+    pub(crate) fn enter(self, entries: [u32; 8], bytes: &[u8], out: &mut [u8]) -> Ledger
+        requires { ⌜ refusalOf self (now bytes) (length (now out)) ≡ 0 ⌝ }
+        requires { ⌜ entries ≡ eight (entryAt (kindOf (now bytes)) (climateOf (now bytes))) ⌝ }
+        ensures { λ r. ⌜ r ≡ acceptedOf self (now (bytes .entry)) .ledger ⌝ }
+        ensures { λ _. ⌜ now (out .exit) ≡ outputRecord (acceptedOf self (now (bytes .entry))) ++ drop 48 (now (out .entry)) ⌝ }
     {
-        let refusal = self.refusal(record, out.len());
-        if refusal != 0 {
-            return Answer {
-                ledger: self,
-                refusal,
-                releases: [0; 8],
-                x0: 0,
-                figure: 0,
-                bound: 0,
-            };
-        }
-        let entries = stock::entries(record[2], record[3]);
-        let answer = self.account(entries, record);
-        output::write(out, answer);
-        answer
+        let answer = self.account(entries, bytes);
+        let after = answer.ledger;
+        let stock = after.stock;
+        let brought = after.brought;
+        let says = Output {
+            period: after.n,
+            kind: after.kind,
+            climate: after.climate,
+            x0: answer.x0,
+            figure: answer.figure,
+            bound: answer.bound,
+            stock: stock::total(stock),
+            brought: stock::total(brought),
+        };
+        output::write(out, says);
+        after
     }
 
     // Answers the carbon left and the carbon brought in over all types; an unsound ledger is refused with 3.
@@ -220,8 +261,8 @@ impl Ledger {
         let brought = self.brought;
         Totals {
             refusal: 0,
-            stock: output::total(stock),
-            brought: output::total(brought),
+            stock: stock::total(stock),
+            brought: stock::total(brought),
         }
     }
 }

@@ -1,79 +1,63 @@
--- The ledger after the record is sound, so the sums are small.
+-- The ledger after the record is sound, so the sums are small; the rest is what each call ensures.
 use mathlib.Core.Path.{_≡_, _∙_}
+use mathlib.Core.List.{List}
 use Prim.Native.Nat.{ℕ}
 use native.Mathlib.Omega.{arith}
 use borrow.Author.Needs.{needs}
 use Rattle.numbers.specs.Eight.{eight}
 use Rattle.numbers.proofs.Eight.{eight-at}
-use Rattle.ledger.specs.Fields.{kindOf, climateOf}
 use Rattle.ledger.specs.Stock.{newBrought, newStock, release, decayedAt, after}
-use Rattle.ledger.specs.Figure.{x0Of, BOf}
-use Rattle.ledger.specs.Take.{acceptedOf}
-use Rattle.ledger.specs.declared.stock.Decayed.{Decayed}
-use Rattle.ledger.proofs.Accepted.{accepted, new-small}
-use Rattle.ledger.proofs.Settle.{gathered}
+use Rattle.ledger.specs.Take.{x0Of, acceptedOf}
+use Rattle.ledger.specs.declared.book.Ledger.{Ledger}
+use Rattle.ledger.proofs.Accepted.{Accepted, accepted, new-small}
 use Rattle.ledger.proofs.book.Ledger.account.Statement.{statement}
 use Rattle.ledger.proofs.book.Ledger.account.Tie as tie
 
+taken : (s : tie.Start) → Accepted (s .args .self) (s .args .bytes .now)
+taken s = accepted (s .args .self) (s .args .bytes .now) 48 (s .pre .0)
+
 -- what was gathered of the eight types
-brought-is : (c : tie.After-brought) → c .brought .result ≡ eight (newBrought (c .before .before .before .args .self) (c .before .before .before .args .«record» .now))
+brought-is : (c : tie.After-brought) → let a = c .before .before .before .args in c .brought .result ≡ eight (newBrought (a .self) (a .bytes .now))
 unfolding decayedAt
-brought-is c = c .brought .ensures ∙ gathered (decayedAt (c .before .before .before .args .self) (c .before .before .before .args .«record» .now)) (λ (d : Decayed). d .brought) (c .before .decay-all .result) (c .before .decay-all .ensures)
+brought-is c = rw (c .before .decay-all .ensures) at (c .brought .ensures)
 
-released : (c : tie.After-releases) → c .releases .result ≡ eight (release (c .before .before .before .before .args .self) (c .before .before .before .before .args .«record» .now))
+released : (c : tie.After-releases) → let a = c .before .before .before .before .args in c .releases .result ≡ eight (release (a .self) (a .bytes .now))
 unfolding decayedAt
-released c = c .releases .ensures ∙ gathered (decayedAt (c .before .before .before .before .args .self) (c .before .before .before .before .args .«record» .now)) (λ (d : Decayed). d .release) (c .before .before .decay-all .result) (c .before .before .decay-all .ensures)
+released c = rw (c .before .before .decay-all .ensures) at (c .releases .ensures)
 
-left-is : (c : tie.After-stock) → c .stock .result ≡ eight (newStock (c .before .before .before .before .before .before .before .before .before .before .before .args .self) (c .before .before .before .before .before .before .before .before .before .before .before .args .«record» .now))
+left-is : (c : tie.After-stocks) → let a = c .before .before .before .before .before .before .before .before .before .before .args in c .stocks .result ≡ eight (newStock (a .self) (a .bytes .now))
 unfolding decayedAt
-left-is c = c .stock .ensures ∙ gathered (decayedAt (c .before .before .before .before .before .before .before .before .before .before .before .args .self) (c .before .before .before .before .before .before .before .before .before .before .before .args .«record» .now)) (λ (d : Decayed). d .stock) (c .before .before .before .before .before .before .before .before .before .decay-all .result) (c .before .before .before .before .before .before .before .before .before .decay-all .ensures)
+left-is c = rw (c .before .before .before .before .before .before .before .before .decay-all .ensures) at (c .stocks .ensures)
 
 total-requires : tie.Need-total-requires
 total-requires c κs = λ t h.
     let s = c .before .before .before .before in
     let l = s .args .self in
-    let bytes = s .args .«record» .now in
-    rw (released c, eight-at (release l bytes) t h) (new-small l bytes (accepted l bytes 48 (s .pre .0)) t h .1)
-
-margins-requires : tie.Need-margins-requires
-margins-requires c κs =
-    let s = c .before .before .before .before .before .before in
-    let l = s .args .self in
-    let bytes = s .args .«record» .now in
-    let a = accepted l bytes 48 (s .pre .0) in
-    (omega (arith, a .more), λ t h. rw (brought-is (c .before .before .before), eight-at (newBrought l bytes) t h) (omega (arith, new-small l bytes a t h .0)))
-
-figure-requires : tie.Need-figure-requires
-figure-requires c κs =
-    let s = c .before .before .before .before .before .before .before .before .before .before .before in
-    let a = accepted (s .args .self) (s .args .«record» .now) 48 (s .pre .0) in
-    (a .size, a .ranges)
-
-bound-requires : tie.Need-bound-requires
-bound-requires c κs =
-    let s = c .before .before .before .before .before .before .before .before .before .before .before .before in
-    let a = accepted (s .args .self) (s .args .«record» .now) 48 (s .pre .0) in
-    (a .size, a .ranges, c .before .before .before .before .before .margins .ensures .1)
+    let bytes = s .args .bytes .now in
+    rw (released c, eight-at (release l bytes) t h) (new-small l bytes (taken s) t h .G)
 
 returns : tie.Need-returns
-unfolding acceptedOf after x0Of BOf kindOf climateOf
+unfolding acceptedOf after x0Of
 returns c =
-    rw (
+    let s = c .before .before .before .before .before .before .before .before .before .before .before .before .before in
+    simp (
       c .bound .ensures,
-      c .before .before .before .before .before .before .margins .ensures .0,
-      c .before .figure .ensures,
+      c .before .margins .ensures,
+      c .before .before .figure .ensures,
+      left-is (c .before .before .before),
+      c .before .before .before .before .climate .ensures,
+      c .before .before .before .before .before .kind .ensures,
+      c .before .before .before .before .before .before .before .of .ensures,
       c .before .before .before .before .before .before .before .before .total .ensures,
-      left-is (c .before .before),
       released (c .before .before .before .before .before .before .before .before .before),
       brought-is (c .before .before .before .before .before .before .before .before .before .before),
+      taken s .ranges,
     )
 
 pub account-spec : {M : Type 1} → statement M
 account-spec =
     tie.close
-    (tie.spec (λ c κs. search needs) (λ c κs. search needs) (λ c κs. search needs) total-requires (λ c. search needs)
-    (λ c. search needs) margins-requires
-    (λ c. let s = c .before .before .before .before .before .before .before .before in omega (arith, accepted (s .args .self) (s .args .«record» .now) 48 (s .pre .0) .more))
-    (λ c. let s = c .before .before .before .before .before .before .before .before .before in omega (arith, accepted (s .args .self) (s .args .«record» .now) 48 (s .pre .0) .size))
-    (λ c. let s = c .before .before .before .before .before .before .before .before .before .before in omega (arith, accepted (s .args .self) (s .args .«record» .now) 48 (s .pre .0) .size))
-    (λ c κs. search needs) figure-requires bound-requires returns)
+    (tie.spec (λ c κs. search needs) (λ c κs. search needs) (λ c κs. search needs) total-requires (λ c κs. search needs)
+    (λ c. omega (arith, taken (c .before .before .before .before .before .before .before) .more))
+    (λ c κs. search needs) (λ c κs. search needs) (λ c κs. search needs) (λ c κs. search needs) (λ c κs. search needs)
+    (λ c κs. search needs) returns)

@@ -1,4 +1,4 @@
--- With at most 1200 records one test over the types serves both cases.
+-- With no more records than a ledger takes, one test over the types serves both cases.
 use mathlib.Core.Path.{sym, _∙_}
 use native.Mathlib.Omega.{arith}
 use borrow.Author.Needs.{needs}
@@ -8,16 +8,13 @@ use Rattle.ledger.proofs.Sound.{sound-tests}
 use Rattle.ledger.proofs.book.Ledger.is_sound.Statement.{statement}
 use Rattle.ledger.proofs.book.Ledger.is_sound.Tie as tie
 
-returns : tie.Need-returns
-unfolding sound
-returns c = simp (lt-leb _ _ (c .if1 .taken))
-
 returns-2 : tie.Need-returns-2
 returns-2 c =
-    let l = c .before .before .before .before .before .args .self in
-    c .both .ensures ∙ rw (c .before .all-within .ensures, c .before .before .is-coded .ensures) (sym (sound-tests l (omega arith)))
+    let l = c .before .before .before .before .args .self in
+    rw (c .all-within .ensures, c .before .is-coded .ensures) (sym (sound-tests l (omega arith)))
 
 pub is-sound-spec : {M : Type 1} → statement M
+unfolding sound
 is-sound-spec =
     tie.close
-    (tie.spec returns (λ c κs. search needs) (λ c κs. search needs) (λ c κs. search needs) returns-2)
+    (tie.spec (λ c. simp (lt-leb _ _ (c .if1 .taken))) (λ c κs. search needs) (λ c κs. search needs) returns-2)

@@ -4,9 +4,8 @@ use mathlib.Core.Bool.{true}
 use native.Mathlib.Omega.{arith}
 use borrow.Author.Needs.{needs}
 use borrow.Author.Tests.{not-true, not-false}
-use Rattle.ledger.specs.Output.{totalStock, totalBrought}
 use Rattle.ledger.specs.Refusal.{sound}
-use Rattle.ledger.specs.Take.{totalsOf}
+use Rattle.ledger.specs.Take.{totalStock, totalBrought, totalsOf}
 use Rattle.ledger.proofs.Sound.{sound-is}
 use Rattle.ledger.proofs.book.Ledger.totals.Statement.{statement}
 use Rattle.ledger.proofs.book.Ledger.totals.Tie as tie

@@ -1,21 +1,22 @@
--- n is at most 1200, so the ceiling fits.
+-- n is small, so the ceiling fits.
 use mathlib.Core.Path.{_≡_}
 use Prim.Native.Nat.{ℕ, _+_, _*_, _^_, _≤_}
 use native.Mathlib.Nat.{mul-le-mul}
 use native.Mathlib.Omega.{arith}
 use borrow.Author.Needs.{needs}
-use Rattle.waste.specs.Waste.{carbonOf}
+use Rattle.waste.specs.Waste.{massLimit, mostCarbon, carbonOf}
 use Rattle.waste.proofs.Laws.{carbon-most}
+use Rattle.ledger.specs.Stock.{mostRecords}
 use Rattle.ledger.specs.Refusal.{ceilingOf}
-use Rattle.ledger.proofs.refusal.is_within.Statement.{statement}
-use Rattle.ledger.proofs.refusal.is_within.Tie as tie
+use Rattle.ledger.proofs.book.is_within.Statement.{statement}
+use Rattle.ledger.proofs.book.is_within.Tie as tie
 
-most : (n t carbon : ℕ) → n ≤ 1200 → carbon ≡ carbonOf (t + 1) → n * 10 ^ 9 * carbon ≤ 1200 * 10 ^ 9 * 4300
-most n t carbon h e = mul-le-mul {n₂ = 1200 * 10 ^ 9} {m₂ = 4300} (omega arith) (rw e (carbon-most (t + 1)))
+most : (n t carbon : ℕ) → n ≤ mostRecords → carbon ≡ carbonOf (t + 1) → n * massLimit * carbon ≤ mostRecords * massLimit * mostCarbon
+most n t carbon h e = mul-le-mul {n₂ = mostRecords * massLimit} {m₂ = mostCarbon} (omega arith) (rw e (carbon-most (t + 1)))
 
 returns : tie.Need-returns
 unfolding ceilingOf
-returns c = simp (c .both .ensures, c .before .carbon .ensures)
+returns c = rw (c .carbon .ensures)
 
 pub is-within-spec : {M : Type 1} → statement M
 is-within-spec =
@@ -23,4 +24,4 @@ is-within-spec =
     (tie.spec (λ c. search needs) (λ c. search needs) (λ c. search needs) (λ c κs. search needs) (λ c. search needs)
     (λ c. let a = c .before .args in omega (arith, most (a .n) (a .t) (c .carbon .result) (search needs) (c .carbon .ensures)))
     (λ c. let a = c .before .args in omega (arith, most (a .n) (a .t) (c .carbon .result) (search needs) (c .carbon .ensures)))
-    (λ c κs. search needs) returns)
+    returns)

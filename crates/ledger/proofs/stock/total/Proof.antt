@@ -6,11 +6,12 @@ use borrow.Author.Needs.{needs}
 use lib.ListN.{getD}
 use Rattle.numbers.specs.Eight.{sumOf}
 use Rattle.numbers.proofs.Eight.{sum-more}
-use Rattle.ledger.proofs.output.total.Statement.{statement}
-use Rattle.ledger.proofs.output.total.Tie as tie
+use Rattle.ledger.specs.Stock.{mostBrought}
+use Rattle.ledger.proofs.stock.total.Statement.{statement}
+use Rattle.ledger.proofs.stock.total.Tie as tie
 
 abbrev Inv-loop : tie.InvT-loop
-Inv-loop numbers sum₀ t₀ sum t = (t ≤ 8) × (sum ≡ sumOf (λ u. getD numbers u 0) t) × (sum ≤ t * (516 * 10 ^ 15))
+Inv-loop numbers sum₀ t₀ sum t = (t ≤ 8) × (sum ≡ sumOf (λ u. getD numbers u 0) t) × (sum ≤ t * (mostBrought))
 
 abbrev μ-loop : tie.MeasureT-loop
 μ-loop numbers sum₀ t₀ sum t = 8 - t

@@ -7,9 +7,9 @@ use borrow.Author.Needs.{needs}
 use borrow.Author.Tests.{not-true, not-false}
 use Rattle.numbers.specs.Eight.{everyOf}
 use Rattle.numbers.proofs.Eight.{every-not, every-more}
-use Rattle.ledger.specs.Refusal.{light}
-use Rattle.ledger.proofs.refusal.all_light.Statement.{statement}
-use Rattle.ledger.proofs.refusal.all_light.Tie as tie
+use Rattle.record.specs.Ranges.{light}
+use Rattle.ledger.proofs.book.all_light.Statement.{statement}
+use Rattle.ledger.proofs.book.all_light.Tie as tie
 
 abbrev Inv-loop : tie.InvT-loop
 Inv-loop bytes t₀ t = (t ≤ 8) × (everyOf (light bytes) t ≡ true)
@@ -19,13 +19,13 @@ abbrev μ-loop : tie.MeasureT-loop
 
 returns : tie.Need-returns Inv-loop μ-loop
 returns c =
-    let bytes = c .before .before .before .before .before .args .«record» .now in
+    let bytes = c .before .before .before .before .before .args .bytes .now in
     let t = c .before .before .before .loop .t in
     sym (every-not (light bytes) 8 t (search needs) (sym (c .before .is-light .ensures) ∙ not-true _ (c .if1 .taken)))
 
 loop-again : tie.Need-loop-again Inv-loop μ-loop
 loop-again c =
-    let bytes = c .before .before .before .before .before .args .«record» .now in
+    let bytes = c .before .before .before .before .before .args .bytes .now in
     let at = c .before .before .before .loop in (
       search needs,
       every-more (light bytes) (at .t) (at .inv .1) (sym (c .before .is-light .ensures) ∙ not-false _ (c .if1 .left)),

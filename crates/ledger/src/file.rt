@@ -1,0 +1,66 @@
+// The whole-run entry: 'One step' of document 01, its last paragraph.
+ghost use mathlib.Core.Path.{_≡_};
+ghost use lib.ListN.{length, take};
+ghost use Rattle.numbers.specs.Eight.{eight};
+ghost use Rattle.record.specs.Fields.{kindOf, climateOf};
+ghost use Rattle.ledger.specs.Stock.{entryAt};
+ghost use Rattle.ledger.specs.Refusal.{refusalOf};
+ghost use Rattle.ledger.specs.History.{recordsOf, runOf, outcomeOf, outOf};
+use crate::answer::Outcome;
+use crate::book::Ledger;
+use crate::stock;
+
+// How many records were accepted, and the refusal of the next one.
+struct End(u64, u8);
+
+// Answers the table entries of a run: those of its first record, which every later accepted record shares.
+fn run_entries(ledger: Ledger, records: &[u8]) -> [u32; 8]
+    ensures { λ r. ⌜ (refusalOf ledger (take 48 (now (records .entry))) 48 ≡ 0
+        → r ≡ eight (entryAt (kindOf (take 48 (now (records .entry)))) (climateOf (take 48 (now (records .entry)))))) ⌝ }
+{
+    if ledger.n > 0 {
+        return stock::entries(ledger.kind, ledger.climate);
+    }
+    stock::entries(record::kind(records), record::climate(records))
+}
+
+// Takes the records of a file one after another, writes the output record of each accepted one behind the last, and stops at
+// the first that is refused; bytes left over that make no record are refused with 1.
+pub fn run(ledger: Ledger, records: &[u8], out: &mut [u8]) -> Outcome
+    ensures { λ r. ⌜ r ≡ outcomeOf (runOf ledger (recordsOf (now (records .entry))) (length (now (out .entry)))) ⌝ }
+    ensures { λ _. ⌜ now (out .exit) ≡ outOf (runOf ledger (recordsOf (now (records .entry))) (length (now (out .entry)))) (now (out .entry)) ⌝ }
+{
+    let good = ledger.is_sound();
+    let entries = run_entries(ledger, records);
+    let mut ledger = ledger;
+    let mut at: usize = 0;
+    let mut accepted: u64 = 0;
+    let end = 'records: loop {
+        let left = records.len() - at;
+        if left == 0 {
+            break 'records End(accepted, 0);
+        }
+        if left < Ledger::BYTES {
+            break 'records End(accepted, 1);
+        }
+        let bytes = &records[at..at + Ledger::BYTES];
+        let refusal = ledger.early_refusal(good, bytes, out.len() - at);
+        if refusal != 0 {
+            break 'records End(accepted, refusal);
+        }
+        for t in 0..8u8 {
+            if !record::is_light(bytes, t) {
+                break 'records End(accepted, 9);
+            }
+        }
+        let next = ledger.enter(entries, bytes, &mut out[at..]);
+        ledger = next;
+        accepted += 1;
+        at += Ledger::BYTES;
+    };
+    Outcome {
+        ledger,
+        accepted: end.0,
+        refusal: end.1,
+    }
+}
