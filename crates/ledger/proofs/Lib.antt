@@ -3,3 +3,5 @@ pub mod Step
 pub mod Accepted
 pub mod Settle
 pub mod Take
+pub mod History
+pub mod MidRun

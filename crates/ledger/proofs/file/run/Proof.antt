@@ -1,185 +1,103 @@
+-- `MidRun` holds at the head of the loop; each way out and each turn is a law of it.
+use mathlib.Core.Path.{_≡_, sym, _∙_}
+use mathlib.Core.Bool.{true, false}
+use mathlib.Core.List.{List}
+use Prim.Native.Nat.{ℕ, _+_, _-_, _≤_, _<_}
+use native.Mathlib.Nat.{add-sub-cancel-left}
+use native.Mathlib.Omega.{arith}
+use borrow.Author.Needs.{needs}
+use borrow.Author.Count.{below-more}
+use borrow.Author.Tests.{not-true, not-false}
+use denote.Ref.{now}
+use lib.ListN.{length, take, drop}
+use Rattle.record.specs.Ranges.{light}
+use Rattle.ledger.specs.Refusal.{refusalOf}
+use Rattle.ledger.specs.Take.{acceptedOf, outputRecord}
+use Rattle.ledger.proofs.Accepted.{has-room, room-alike, early}
+use Rattle.ledger.proofs.MidRun.{MidRun, run-starts, lent-back, lent-length, at-end, at-short, at-early, at-heavy, no-refusal, turn-on}
 use Rattle.ledger.proofs.file.run.Statement.{statement}
 use Rattle.ledger.proofs.file.run.Tie as tie
-use Rattle.ledger.proofs.file.run.Reads as reads
-use Rattle.ledger.proofs.file.run.Lts as lts
-use Rattle.ledger.proofs.book.Ledger.early_refusal.Reads as early-refusal-reads
-use Rattle.ledger.proofs.book.Ledger.enter.Reads as enter-reads
-use Rattle.ledger.proofs.book.Ledger.is_sound.Reads as is-sound-reads
-use Rattle.ledger.proofs.file.run_entries.Reads as run-entries-reads
-use Rattle.record.proofs.is_light.Reads as is-light-reads
 
 abbrev Inv-loop : tie.InvT-loop
-Inv-loop records out good entries ledger at accepted left bytes refusal t₀ t = ?
+Inv-loop file out good entries l at count left bytes refusal t₀ t = (t ≤ 8) × ((k : ℕ) → k < t → light bytes k ≡ true)
 
 abbrev μ-loop : tie.MeasureT-loop
-μ-loop records out good entries ledger at accepted left bytes refusal t₀ t = ?
+μ-loop file out good entries l at count left bytes refusal t₀ t = 8 - t
 
 abbrev Inv-records : tie.InvT-records
-Inv-records records out₀ good entries ledger₀ at₀ accepted₀ out ledger at accepted = ?
+Inv-records file out₀ good entries l₀ at₀ count₀ out l at count = MidRun l₀ file out₀ entries good out l at count
 
 abbrev μ-records : tie.MeasureT-records
-μ-records records out₀ good entries ledger₀ at₀ accepted₀ out ledger at accepted = ?
+μ-records file out₀ good entries l₀ at₀ count₀ out l at count = length file - at
 
--- src/file.rt:33:9
-is-sound-requires : tie.Need-is-sound-requires Inv-loop μ-loop Inv-records μ-records
-is-sound-requires c κs = ?
+abbrev Head : Type 0
+Head = tie.At-records Inv-loop μ-loop Inv-records μ-records
 
--- src/file.rt:34:9
-run-entries-requires : tie.Need-run-entries-requires Inv-loop μ-loop Inv-records μ-records
-run-entries-requires c κs = ?
+-- the record at the head of the loop, and the room that is left
+abbrev bytesAt : Head → List ℕ
+bytesAt c = take 48 (drop (c .records .at) (c .before .before .before .before .before .args .records .now))
 
--- src/file.rt:38:9
-records-holds : tie.Need-records-holds Inv-loop μ-loop Inv-records μ-records
-records-holds c = ?
+abbrev roomAt : Head → ℕ
+roomAt c = length (c .records .out) - c .records .at
 
--- src/file.rt:39:20
-sub-left : tie.Need-sub-left Inv-loop μ-loop Inv-records μ-records
-sub-left c = ?
+-- past both checks the record is accepted
+none-early : (c : tie.After-early-refusal Inv-loop μ-loop Inv-records μ-records) → c .early-refusal .result ≡ 0
+    → let h = c .before .before .before .before in early (h .records .ledger) (bytesAt h) (roomAt h) (h .before .before .is-sound .result) ≡ 0
+none-early c z = sym (rw (add-sub-cancel-left (c .before .before .before .before .records .at) 48) at (c .early-refusal .ensures)) ∙ z
 
--- src/file.rt:46:34
-add-bytes : tie.Need-add-bytes Inv-loop μ-loop Inv-records μ-records
-add-bytes c = ?
+passed : (c : tie.After-loop Inv-loop μ-loop Inv-records μ-records)
+    → let h = c .before .before .before .before .before .before .before in refusalOf (h .records .ledger) (bytesAt h) (roomAt h) ≡ 0
+passed c =
+    let h = c .before .before .before .before .before .before .before in
+    no-refusal (h .records .inv) (none-early (c .before .before .before) (c .before .before .if3 .left))
+    (λ t b. rw (add-sub-cancel-left (h .records .at) 48) at (c .before .loop .inv .1 t (omega (arith, c .loop-test .left))))
 
--- src/file.rt:46:21
-sub-bytes : tie.Need-sub-bytes Inv-loop μ-loop Inv-records μ-records
-sub-bytes c = ?
-
--- src/file.rt:46:21
-part-bytes-start : tie.Need-part-bytes-start Inv-loop μ-loop Inv-records μ-records
-part-bytes-start c = ?
-
--- src/file.rt:46:21
-part-bytes-end : tie.Need-part-bytes-end Inv-loop μ-loop Inv-records μ-records
-part-bytes-end c = ?
-
--- src/file.rt:47:57
-sub-early-refusal : tie.Need-sub-early-refusal Inv-loop μ-loop Inv-records μ-records
-sub-early-refusal c = ?
-
--- src/file.rt:47:13
-early-refusal-requires : tie.Need-early-refusal-requires Inv-loop μ-loop Inv-records μ-records
-early-refusal-requires c κs = ?
-
--- src/file.rt:51:9
-loop-holds : tie.Need-loop-holds Inv-loop μ-loop Inv-records μ-records
-loop-holds c = ?
-
--- src/file.rt:52:17
-is-light-requires : tie.Need-is-light-requires Inv-loop μ-loop Inv-records μ-records
-is-light-requires c κs = ?
-
--- src/file.rt:51:13
-add-t : tie.Need-add-t Inv-loop μ-loop Inv-records μ-records
-add-t c = ?
-
--- src/file.rt:51:9
-loop-less : tie.Need-loop-less Inv-loop μ-loop Inv-records μ-records
-loop-less c = ?
-
--- src/file.rt:51:9
 loop-again : tie.Need-loop-again Inv-loop μ-loop Inv-records μ-records
-loop-again c = ?
+loop-again c =
+    (search needs, below-more _ _ (c .before .before .before .loop .inv .1) (sym (c .before .is-light .ensures) ∙ not-false _ (c .if4 .left)))
 
--- src/file.rt:56:49
-sub-enter : tie.Need-sub-enter Inv-loop μ-loop Inv-records μ-records
-sub-enter c = ?
-
--- src/file.rt:56:49
-part-enter-start : tie.Need-part-enter-start Inv-loop μ-loop Inv-records μ-records
-part-enter-start c = ?
-
--- src/file.rt:56:49
-part-enter-end : tie.Need-part-enter-end Inv-loop μ-loop Inv-records μ-records
-part-enter-end c = ?
-
--- src/file.rt:56:13
 enter-requires : tie.Need-enter-requires Inv-loop μ-loop Inv-records μ-records
-enter-requires c κs = ?
+enter-requires c κs =
+    let h = c .before .before .before .before .before .before .before .before in
+    let ok = passed (c .before) in
+    let enough : 48 ≤ roomAt h = has-room (h .records .ledger) (bytesAt h) (roomAt h) ok in
+    rw (add-sub-cancel-left (h .records .at) 48, lent-length (h .records .out) (h .records .at))
+    (ok, h .records .inv .fit (room-alike (h .records .ledger) (bytesAt h) 48 (roomAt h) (omega arith) enough ∙ ok))
 
--- src/file.rt:58:9
-add-accepted : tie.Need-add-accepted Inv-loop μ-loop Inv-records μ-records
-add-accepted c = ?
-
--- src/file.rt:59:9
-add-at : tie.Need-add-at Inv-loop μ-loop Inv-records μ-records
-add-at c = ?
-
--- src/file.rt:38:9
-records-less : tie.Need-records-less Inv-loop μ-loop Inv-records μ-records
-records-less c = ?
-
--- src/file.rt:38:9
 records-again : tie.Need-records-again Inv-loop μ-loop Inv-records μ-records
-records-again c = ?
+records-again c =
+    let h = c .before .before .before .before .before .before .before .before .before .before .before in
+    let entered = c .before .before .enter in
+    rw (rw (add-sub-cancel-left (h .records .at) 48) at (entered .ensures .0))
+    (turn-on (h .records .inv) _ (omega (arith, c .before .before .before .before .before .before .before .before .before .if2)) (passed (c .before .before .before .before))
+    (lent-back (h .records .out) (h .records .at) (outputRecord (acceptedOf (h .records .ledger) (bytesAt h))) (entered .last .1 .1 .1 .0)
+    (rw (add-sub-cancel-left (h .records .at) 48) at (entered .ensures .1))))
 
--- src/file.rt:29:1
-same-length : tie.Need-same-length Inv-loop μ-loop Inv-records μ-records
-same-length c = ?
-
--- src/file.rt:29:1
-returns : tie.Need-returns Inv-loop μ-loop Inv-records μ-records
-returns c = ?
-
--- src/file.rt:29:1
-same-length-2 : tie.Need-same-length-2 Inv-loop μ-loop Inv-records μ-records
-same-length-2 c = ?
-
--- src/file.rt:29:1
-returns-2 : tie.Need-returns-2 Inv-loop μ-loop Inv-records μ-records
-returns-2 c = ?
-
--- src/file.rt:29:1
-same-length-3 : tie.Need-same-length-3 Inv-loop μ-loop Inv-records μ-records
-same-length-3 c = ?
-
--- src/file.rt:29:1
 returns-3 : tie.Need-returns-3 Inv-loop μ-loop Inv-records μ-records
-returns-3 c = ?
+returns-3 c =
+    let h = c .before .before .before .before .before in
+    at-early (h .records .inv) _ (omega (arith, c .before .before .before .if2)) (rw (add-sub-cancel-left (h .records .at) 48) at (c .before .early-refusal .ensures)) (c .if3 .taken)
 
--- src/file.rt:29:1
-same-length-4 : tie.Need-same-length-4 Inv-loop μ-loop Inv-records μ-records
-same-length-4 c = ?
-
--- src/file.rt:29:1
 returns-4 : tie.Need-returns-4 Inv-loop μ-loop Inv-records μ-records
-returns-4 c = ?
+returns-4 c =
+    let h = c .before .before .before .before .before .before .before .before .before in
+    let t = c .before .before .before .loop .t in
+    at-heavy (h .records .inv) (none-early (c .before .before .before .before .before) (c .before .before .before .before .if3 .left)) (omega (arith, c .before .before .before .before .before .before .before .if2)) t (search needs)
+    (rw (add-sub-cancel-left (h .records .at) 48) at (sym (c .before .is-light .ensures) ∙ not-true _ (c .if4 .taken)))
 
 pub run-spec : {M : Type 1} → statement M
 run-spec =
     tie.close
-    (tie.spec
-    Inv-loop
-    μ-loop
-    Inv-records
-    μ-records
-    is-sound-requires
-    run-entries-requires
-    records-holds
-    sub-left
-    add-bytes
-    sub-bytes
-    part-bytes-start
-    part-bytes-end
-    sub-early-refusal
-    early-refusal-requires
-    loop-holds
-    is-light-requires
-    add-t
-    loop-less
-    loop-again
-    sub-enter
-    part-enter-start
-    part-enter-end
-    enter-requires
-    add-accepted
-    add-at
-    records-less
+    (tie.spec Inv-loop μ-loop Inv-records μ-records (λ c κs. search needs) (λ c κs. search needs)
+    (λ c. run-starts _ _ _ _ _ (c .before .is-sound .ensures) (c .run-entries .ensures))
+    (λ c. search needs) (λ c. search needs) (λ c. search needs) (λ c. search needs) (λ c. search needs)
+    (λ c. search needs) (λ c κs. search needs) (λ c. (search needs, λ k l. absurd (omega arith))) (λ c κs. search needs)
+    (λ c. search needs) (λ c. search needs) loop-again
+    (λ c. search needs) (λ c. search needs) (λ c. search needs) enter-requires
+    (λ c. let h = c .before .before .before .before .before .before .before .before .before .before .before .records in omega (arith, h .inv .steps, h .inv .in-file, c .before .before .before .before .before .before .before .before .before .if2, c .before .before .before .before .before .before .before .before .before .before .before .before .before .before .before .before))
+    (λ c. omega (arith, c .before .before .before .before .before .before .before .before .before .if2, c .before .before .before .before .before .before .before .before .before .before .before .before .before .before .before .before))
+    (λ c. omega (arith, c .before .before .before .before .before .before .before .before .before .if2))
     records-again
-    same-length
-    returns
-    same-length-2
-    returns-2
-    same-length-3
-    returns-3
-    same-length-4
-    returns-4)
+    (λ c. search needs) (λ c. at-end (c .before .records .inv) (c .if1 .taken))
+    (λ c. search needs) (λ c. at-short (c .before .before .records .inv) (omega (arith, c .before .if1)) (c .if2 .taken))
+    (λ c. search needs) returns-3 (λ c. search needs) returns-4)
