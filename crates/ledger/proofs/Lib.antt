@@ -5,3 +5,5 @@ pub mod Settle
 pub mod Take
 pub mod History
 pub mod MidRun
+pub mod Fits
+pub mod OneRecord

@@ -75,7 +75,7 @@ lent-back out at o ys e =
 
 -- the whole of what is lent from a place on
 pub lent-length : (out : List ℕ) (at : ℕ) → length (take (length out - at) (drop at out)) ≡ length out - at
-lent-length out at = length-take-le (length out - at) (drop at out) (simp length-drop (omega arith)) 
+lent-length out at = length-take-le (length out - at) (drop at out) (simp length-drop (omega arith))
 
 module _ {l₀ : Ledger} {file out₀ entries : List ℕ} {good : Bool} {out : List ℕ} {l : Ledger} {at count : ℕ}
     (h : MidRun l₀ file out₀ entries good out l at count) where

@@ -8,13 +8,13 @@ use lib.ListN.{length}
 use Rattle.ledger.specs.Stock.{after}
 use Rattle.ledger.specs.Refusal.{refusalOf}
 use Rattle.output.specs.Output.{outputOf}
-use Rattle.ledger.specs.Take.{acceptedOf, refusedOf, takeOf, writtenOf, outputRecord}
+use Rattle.ledger.specs.Take.{acceptedOf, refusedOf, takeOf, writtenOf, outputFields, outputRecord}
 use Rattle.ledger.specs.declared.book.Ledger.{Ledger}
 use Rattle.ledger.specs.declared.answer.Answer.{Answer}
 
 -- The output record has 48 bytes.
 pub output-length : (a : Answer) → length (outputRecord a) ≡ 48
-unfolding outputRecord outputOf
+unfolding outputRecord outputFields outputOf
 output-length a = refl
 
 module _ (l : Ledger) (bytes : List ℕ) (room : ℕ) where

@@ -8,6 +8,7 @@ use Rattle.numbers.specs.Eight.{eight, sumOf}
 use Rattle.record.specs.Fields.{recordBytes, factorsOf}
 use Rattle.figure.specs.Figure.{figureOf, BOf, boundOf}
 use Rattle.output.specs.Output.{outputOf}
+use Rattle.output.specs.declared.Output.{Output}
 use Rattle.ledger.specs.Stock.{broughtAt, stockAt, release, after}
 use Rattle.ledger.specs.Refusal.{refusalOf, sound}
 use Rattle.ledger.specs.declared.book.Ledger.{Ledger}
@@ -45,10 +46,9 @@ totalStock l = sumOf (stockAt l) 8
 unfoldable pub totalBrought : Ledger → ℕ
 totalBrought l = sumOf (broughtAt l) 8
 
--- The output record of an answer; its period is the n of the ledger after the record, which the record's period equals.
-unfoldable pub outputRecord : Answer → List ℕ
-outputRecord a =
-    outputOf (
+-- What the output record of an answer says; its period is the n of the ledger after the record, which the record's period equals.
+unfoldable pub outputFields : Answer → Output
+outputFields a =
     record {
       period = a .ledger .n;
       kind = a .ledger .kind;
@@ -58,7 +58,10 @@ outputRecord a =
       bound = a .bound;
       stock = totalStock (a .ledger);
       brought = totalBrought (a .ledger);
-    })
+    }
+
+unfoldable pub outputRecord : Answer → List ℕ
+outputRecord a = outputOf (outputFields a)
 
 -- Accepted: 48 bytes are written, the rest of the slice keeps its value. Refused: every output byte keeps its value.
 unfoldable pub writtenOf : Ledger → List ℕ → (out : List ℕ) → List ℕ

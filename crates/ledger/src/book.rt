@@ -11,11 +11,12 @@ ghost use Rattle.decay.specs.Series.{isKind};
 ghost use Rattle.waste.specs.Waste.{isClimate};
 ghost use Rattle.record.specs.Fields.{kindOf, climateOf};
 ghost use Rattle.record.specs.Ranges.{light};
-ghost use Rattle.ledger.specs.Stock.{mostRecords, fresh, entryAt, decayedAt};
+ghost use Rattle.ledger.specs.Stock.{mostRecords, fresh, entryAt, newStock, release, decayedAt};
 ghost use Rattle.ledger.specs.Refusal.{ceilingOf, withinAt, sound, continues, faultsOf, refusalOf};
-ghost use Rattle.ledger.specs.Take.{acceptedOf, outputRecord, takeOf, writtenOf, totalsOf};
+ghost use Rattle.ledger.specs.Take.{acceptedOf, refusedOf, outputRecord, takeOf, writtenOf, totalsOf};
 use crate::answer::Answer;
 use crate::answer::Totals;
+use crate::file;
 use crate::stock;
 use crate::stock::Decayed;
 use output::Output;
@@ -244,6 +245,58 @@ impl Ledger {
         };
         output::write(out, says);
         after
+    }
+
+    // Answers what each type releases by an accepted record that leaves so much: G = H - the new R.
+    fn released(self, bytes: &[u8], left: [u64; 8]) -> [u64; 8]
+        requires { ⌜ (refusalOf self (now bytes) 48 ≡ 0) × (left ≡ eight (newStock self (now bytes))) ⌝ }
+        ensures { λ r. ⌜ r ≡ eight (release self (now (bytes .entry))) ⌝ }
+    {
+        let mut releases = [0u64; 8];
+        for t in 0..8 {
+            releases[t] = self.stock[t] + record::deposit(bytes, t as u8) - left[t];
+        }
+        releases
+    }
+
+    // Answers that a record is refused by a number; the ledger comes back as it is.
+    fn refused(self, refusal: u8) -> Answer
+        ensures { λ r. ⌜ r ≡ refusedOf self refusal ⌝ }
+    {
+        Answer {
+            ledger: self,
+            refusal,
+            releases: [0; 8],
+            x0: 0,
+            figure: 0,
+            bound: 0,
+        }
+    }
+
+    // Takes one record: answers the ledger after it, its releases, figure and bound, and writes its output record at the start
+    // of the output; or refuses it by number, and leaves the ledger and the output as they are. It is a run of one record, so
+    // that the step's code stands once in a program.
+    pub fn take(self, bytes: &[u8], out: &mut [u8]) -> Answer
+        ensures { λ r. ⌜ r ≡ takeOf self (now (bytes .entry)) (length (now (out .entry))) ⌝ }
+        ensures { λ _. ⌜ now (out .exit) ≡ writtenOf self (now (bytes .entry)) (now (out .entry)) ⌝ }
+    {
+        if bytes.len() != Ledger::BYTES {
+            return self.refused(1);
+        }
+        let end = file::run(self, bytes, out);
+        if end.refusal != 0 {
+            return self.refused(end.refusal);
+        }
+        let after = end.ledger;
+        let left = after.stock;
+        Answer {
+            ledger: after,
+            refusal: 0,
+            releases: self.released(bytes, left),
+            x0: numbers::read_u64(out, 8),
+            figure: numbers::read_u64(out, 16),
+            bound: numbers::read_u64(out, 24),
+        }
     }
 
     // Answers the carbon left and the carbon brought in over all types; an unsound ledger is refused with 3.

@@ -6,7 +6,7 @@ use native.Mathlib.Nat.{zero-add, add-zero, suc-add, pow-zero, pow-suc, pow-succ
 use native.Mathlib.Numerals.{add-one}
 use native.Mathlib.Omega.{arith}
 use lib.ListN.{length, drop, getD, set, length-set}
-use lib.Seq.{sets, sets-eq, getD-set-same, getD-set-other}
+use lib.Seq.{sets, sets-eq, getD-set-same, getD-set-other, getD-drop}
 use Rattle.numbers.specs.Bytes.{numberAt, bytesOf}
 
 pub number-join : (j k : ℕ) (s : List ℕ) (at : ℕ) → numberAt (j + k) s at ≡ numberAt j s at + 256 ^ j * numberAt k s (at + j)
@@ -73,3 +73,10 @@ read-back (suc k) x h =
     let rest : numberAt k (x % 256 ∷ bytesOf k (x / 256)) (0 + 1) ≡ x / 256
     = number-behind k (x % 256) (bytesOf k (x / 256)) 0 ∙ read-back k (x / 256) (omega arith) in
     omega arith
+
+-- A number behind the first bytes stands in the rest of them.
+pub number-drop : (k m j : ℕ) (bytes : List ℕ) → numberAt k bytes (m + j) ≡ numberAt k (drop m bytes) j
+number-drop zero m j bytes = refl
+number-drop (suc k) m j bytes =
+    let next : m + j + 1 ≡ m + (j + 1) = omega arith in
+    rw (next, number-drop k m (j + 1) bytes, getD-drop m bytes j 0)

@@ -3,7 +3,7 @@ use mathlib.Core.Path.{_≡_, refl, sym, ap, _∙_}
 use mathlib.Core.Bool.{Bool, true, false, _&&_, and-false}
 use mathlib.Core.List.{List, [], _∷_}
 use mathlib.Core.Logic.{⊎-elim}
-use Prim.Native.Nat.{ℕ, zero, suc, _+_, _≤_, _<_}
+use Prim.Native.Nat.{ℕ, zero, suc, _+_, _*_, _≤_, _<_}
 use native.Mathlib.Nat.{add-zero, add-suc, suc-add, zero-add, eq-or-lt-of-le, le-of-suc-le-suc}
 use native.Mathlib.Numerals.{add-one}
 use native.Mathlib.Omega.{arith}
@@ -21,6 +21,11 @@ module _ (f : ℕ → ℕ) (t : ℕ) where
 
   pub sum-more : {n x : ℕ} → n ≡ sumOf f t → x ≡ f t → n + x ≡ sumOf f (t + 1)
   sum-more p q = rw (add-one, p, q)
+
+-- A sum of small numbers is small.
+pub sum-most : (f : ℕ → ℕ) (b k : ℕ) → ((t : ℕ) → t < k → f t ≤ b) → sumOf f k ≤ k * b
+sum-most f b zero h = omega arith
+sum-most f b (suc k) h = omega (arith, sum-most f b k (λ t l. h t (omega arith)), h k (omega arith))
 
 -- f s, f (s + 1), .., k of them
 abbrev run : (ℕ → ℕ) → ℕ → ℕ → List ℕ

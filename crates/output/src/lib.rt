@@ -58,5 +58,12 @@ pub fn write(out: &mut [u8], says: Output)
         return;
     }
     write_head(out, says.period, says.kind, says.climate);
-    write_five(out, says.x0, says.figure, says.bound, says.stock, says.brought);
+    write_five(
+        out,
+        says.x0,
+        says.figure,
+        says.bound,
+        says.stock,
+        says.brought,
+    );
 }

@@ -39,6 +39,9 @@ impl Factors {
     {
         let percents = (self.oxidation <= 100) & (self.methane <= 100) & (self.docf <= 100);
         let factor = numbers::is_between(1, self.factor as u64, 100);
-        factor & percents & numbers::is_between(1, self.potential as u64, 100) & (self.captured <= 10000)
+        factor
+            & percents
+            & numbers::is_between(1, self.potential as u64, 100)
+            & (self.captured <= 10000)
     }
 }

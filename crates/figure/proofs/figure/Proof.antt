@@ -27,7 +27,7 @@ returns-2 c =
     let line2 = c .before in
     let line1 = line2 .before .before .before .before .before in
     simp (within (line1 .before .before .before)) (
-      c .grams .ensures .0 ∙ rw (line2 .methane .ensures, line2 .before .before .before .before .correction .ensures, line1 .kept .ensures)
+    c .grams .ensures .0 ∙ rw (line2 .methane .ensures, line2 .before .before .before .before .correction .ensures, line1 .kept .ensures)
     )
 
 pub figure-spec : {M : Type 1} → statement M

@@ -1,18 +1,16 @@
 -- n has 16 bits, so n × T / 10^9 is small beside 2^64.
 use mathlib.Core.Path.{_≡_, ap}
 use Prim.Native.Nat.{ℕ, _+_, _*_, _/_, _^_, _≤_}
-use native.Mathlib.Nat.{mul-comm, mul-le-mul}
+use native.Mathlib.Nat.{mul-comm}
 use native.Mathlib.Omega.{arith}
 use borrow.Author.Needs.{needs}
 use borrow.Author.Tests.{eq-eqb, ne-eqb}
 use lib.Dec.{lit<}
 use Rattle.numbers.proofs.Split.{share-fits}
 use Rattle.figure.specs.Figure.{marginOf}
+use Rattle.figure.proofs.Laws.{margin-small}
 use Rattle.figure.proofs.margin.Statement.{statement}
 use Rattle.figure.proofs.margin.Tie as tie
-
-small : (n brought : ℕ) → n ≤ 65535 → brought ≤ 2 ^ 64 → n + 1 + brought * n / 10 ^ 9 ≤ 2 ^ 51
-small n brought h k = omega (arith, mul-le-mul k h)
 
 mul-div-requires : tie.Need-mul-div-requires
 mul-div-requires c κs =
@@ -24,7 +22,7 @@ unfolding marginOf
 returns-2 c =
     let a = c .before .before .args in (
       simp (ne-eqb (a .brought) 0 (c .before .if1 .left), mul-comm (a .n) (a .brought)) (ap (λ (m : ℕ). a .n + 1 + m) (c .mul-div .ensures)),
-      omega (arith, small (a .n) (a .brought) (omega arith) (omega arith)),
+      omega (arith, margin-small (a .n) (a .brought) (omega arith) (omega arith)),
     )
 
 pub margin-spec : {M : Type 1} → statement M
@@ -32,5 +30,5 @@ unfolding marginOf
 margin-spec =
     tie.close
     (tie.spec (λ c. (simp (eq-eqb _ _ (c .if1 .taken)), search needs)) (λ c. search needs) mul-div-requires
-    (λ c. let a = c .before .before .args in omega (arith, small (a .n) (a .brought) (omega arith) (omega arith)))
+    (λ c. let a = c .before .before .args in omega (arith, margin-small (a .n) (a .brought) (omega arith) (omega arith)))
     returns-2)

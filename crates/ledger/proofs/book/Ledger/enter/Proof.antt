@@ -9,7 +9,7 @@ use denote.Ref.{now}
 use lib.ListN.{length}
 use Rattle.output.specs.Output.{written}
 use Rattle.ledger.specs.Refusal.{sound, refusalOf}
-use Rattle.ledger.specs.Take.{totalStock, totalBrought, outputRecord}
+use Rattle.ledger.specs.Take.{totalStock, totalBrought, outputFields, outputRecord}
 use Rattle.ledger.specs.declared.answer.Answer.{Answer}
 use Rattle.ledger.proofs.Sound.{Sound, sound-is}
 use Rattle.ledger.proofs.Accepted.{accepted, accepted-sound, has-room, room-alike}
@@ -31,7 +31,7 @@ after-sound c =
     (rw (c .account .ensures) (accepted-sound (s .args .self) (s .args .bytes .now) (accepted (s .args .self) (s .args .bytes .now) (length (now (s .args .out))) (s .pre .0))))
 
 returns : tie.Need-returns
-unfolding written outputRecord totalStock totalBrought
+unfolding written outputRecord outputFields totalStock totalBrought
 returns c =
     let s = c .before .before .before .before .before .before .before .before .before .before .before .before in
     let a = c .before .before .before .before .before .before .before .before .before .account .result in
