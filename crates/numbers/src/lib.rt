@@ -2,6 +2,7 @@
 // The crates above call it; most of it asks that what it works out fits, so none of it is for a user to call.
 mod le;
 mod ratio;
+mod row;
 mod test;
 
 pub use le::read_u16;
@@ -11,4 +12,6 @@ pub use le::write_u16;
 pub use le::write_u32;
 pub use le::write_u64;
 pub use ratio::mul_div;
+pub use row::read_eight;
+pub use row::write_eight;
 pub use test::is_between;
