@@ -1,0 +1,107 @@
+-- The image of a ledger that can be kept says that ledger again; every ledger that the library answers to one can be kept.
+use mathlib.Core.Path.{_≡_, refl, sym, ap, _∙_}
+use mathlib.Core.Bool.{Bool, true, false}
+use mathlib.Core.List.{List, [], _∷_}
+use Prim.Native.Nat.{ℕ, _-_, _^_, _<_}
+use native.Mathlib.Decide.{ℕ-discrete}
+use native.Mathlib.Omega.{arith}
+use lib.Dec.{lit<}
+use Rattle.numbers.specs.Eight.{eight}
+use Rattle.numbers.proofs.Bytes.{read-back}
+use Rattle.record.specs.Fields.{recordBytes}
+use Rattle.ledger.specs.Stock.{fresh, broughtAt, stockAt, after}
+use Rattle.ledger.specs.Refusal.{sound, allZero, emptyAt, refusalOf}
+use Rattle.ledger.specs.Take.{acceptedOf, takeOf}
+use Rattle.ledger.specs.History.{Offer, Run, turns, ledgerAfter, runOf}
+use Rattle.ledger.specs.declared.book.Ledger.{Ledger}
+use Rattle.ledger.specs.declared.answer.Answer.{Answer}
+use Rattle.ledger.proofs.Sound.{sound-is}
+use Rattle.ledger.proofs.Accepted.{accepted, accepted-sound}
+use Rattle.ledger.proofs.Take.{taken, refused-keeps}
+use Rattle.ledger.proofs.History.{run-goes-on, run-stops, run-ends}
+use Rattle.image.specs.Image.{imageOf, saidBy, isImage, noLedger, ledgerOf, Kept}
+
+module _ (l : Ledger) (k : Kept l) where
+  n-fits : l .n < 2 ^ 16
+  n-fits = omega (arith, sound-is l (k .is-sound) .few)
+
+  T-fits : (t : ℕ) → t < 8 → broughtAt l t < 2 ^ 64
+  T-fits t h = omega (arith, sound-is l (k .is-sound) .at t h .small)
+
+  R-fits : (t : ℕ) → t < 8 → stockAt l t < 2 ^ 64
+  R-fits t h = let w = sound-is l (k .is-sound) .at t h in omega (arith, w .kept, w .small)
+
+  said-again : saidBy (imageOf l) ≡ l
+  unfolding imageOf saidBy
+  said-again =
+      rw (
+        read-back 2 (l .n) n-fits,
+        read-back 8 (broughtAt l 0) (T-fits 0 (lit< tt)),
+        read-back 8 (broughtAt l 1) (T-fits 1 (lit< tt)),
+        read-back 8 (broughtAt l 2) (T-fits 2 (lit< tt)),
+        read-back 8 (broughtAt l 3) (T-fits 3 (lit< tt)),
+        read-back 8 (broughtAt l 4) (T-fits 4 (lit< tt)),
+        read-back 8 (broughtAt l 5) (T-fits 5 (lit< tt)),
+        read-back 8 (broughtAt l 6) (T-fits 6 (lit< tt)),
+        read-back 8 (broughtAt l 7) (T-fits 7 (lit< tt)),
+        read-back 8 (stockAt l 0) (R-fits 0 (lit< tt)),
+        read-back 8 (stockAt l 1) (R-fits 1 (lit< tt)),
+        read-back 8 (stockAt l 2) (R-fits 2 (lit< tt)),
+        read-back 8 (stockAt l 3) (R-fits 3 (lit< tt)),
+        read-back 8 (stockAt l 4) (R-fits 4 (lit< tt)),
+        read-back 8 (stockAt l 5) (R-fits 5 (lit< tt)),
+        read-back 8 (stockAt l 6) (R-fits 6 (lit< tt)),
+        read-back 8 (stockAt l 7) (R-fits 7 (lit< tt)),
+      )
+      (λ i. record { n = l .n; kind = l .kind; climate = l .climate; brought = sym (k .brought) i; stock = sym (k .stock) i })
+
+  image-is-one : isImage (imageOf l) ≡ true
+  unfolding isImage imageOf
+  image-is-one = refl
+
+  -- The image of a ledger says it again.
+  pub image-back : ledgerOf (imageOf l) ≡ l
+  unfolding ledgerOf
+  image-back = rw image-is-one said-again
+
+pub fresh-kept : Kept fresh
+unfolding fresh sound allZero emptyAt
+fresh-kept = record { is-sound = refl; brought = refl; stock = refl }
+
+-- A sound ledger that bytes say can be kept.
+pub said-kept : (image : List ℕ) → sound (ledgerOf image) ≡ true → Kept (ledgerOf image)
+unfolding ledgerOf saidBy noLedger
+said-kept image e = by (isImage image) refl
+  where
+    by : (b : Bool) → isImage image ≡ b → Kept (ledgerOf image)
+    by true i = simp i (record { is-sound = simp i at e; brought = refl; stock = refl })
+    by false i = simp i (record { is-sound = simp i at e; brought = refl; stock = refl })
+
+-- The ledger after an accepted record, whatever ledger took it,
+pub accepted-kept : (l : Ledger) (bytes : List ℕ) (room : ℕ) → refusalOf l bytes room ≡ 0 → Kept (acceptedOf l bytes .ledger)
+unfolding acceptedOf after
+accepted-kept l bytes room e =
+    record { is-sound = accepted-sound l bytes (accepted l bytes room e); brought = refl; stock = refl }
+
+-- so the ledger after any record,
+pub step-kept : (l : Ledger) (bytes : List ℕ) (room : ℕ) → Kept l → Kept (takeOf l bytes room .ledger)
+step-kept l bytes room k =
+    elim (ℕ-discrete (refusalOf l bytes room) 0) [
+      | yes e ↦ rw (taken l bytes room e) (accepted-kept l bytes room e)
+      | no e ↦ rw (refused-keeps l bytes room e) k
+    ]
+
+-- after some turns,
+pub turns-kept : (l : Ledger) (offers : List Offer) → Kept l → Kept (ledgerAfter l (turns l offers))
+unfolding turns ledgerAfter
+turns-kept l [] k = k
+turns-kept l (offer ∷ rest) k = turns-kept (takeOf l (offer .bytes) (offer .room) .ledger) rest (step-kept l (offer .bytes) (offer .room) k)
+
+-- and after a whole run can be kept.
+pub run-kept : (l : Ledger) (records : List (List ℕ)) (room : ℕ) → Kept l → Kept (runOf l records room .ledger)
+run-kept l [] room k = rw (run-ends l room) k
+run-kept l (bytes ∷ rest) room k =
+    elim (ℕ-discrete (refusalOf l bytes room) 0) [
+      | yes e ↦ rw (run-goes-on l bytes rest room e) (run-kept (acceptedOf l bytes .ledger) rest (room - recordBytes) (accepted-kept l bytes room e))
+      | no e ↦ rw (run-stops l bytes rest room (refusalOf l bytes room) refl e) k
+    ]
