@@ -65,7 +65,7 @@ const ALL_WHOLE: u64 = ONE + 52;
 
 const NOT_FINITE: u64 = 2047;
 
-// Answers the mass that a number names, or the refusal, from its digits, of which so many stand behind the point.
+// Answers the mass of a number, or the refusal, from its sign, its digits and how many of these stand behind the point.
 fn weigh_digits(minus: bool, digits: u64, behind: u64) -> Weighed
     requires { ⌜ (0 < digits) × (behind < 64) ⌝ }
     ensures { λ r. ⌜ ((number : Float) → HasValue number minus digits (2 ^ behind) → numbersOf r ≡ answerToNumber (wholeOf number)) ⌝ }
@@ -83,7 +83,7 @@ fn weigh_digits(minus: bool, digits: u64, behind: u64) -> Weighed
     Weighed::Mass(kg as u32)
 }
 
-// Answers the mass that a number's bits name, or the refusal.
+// Answers the mass that a number's bits name, or the refusal: by whole numbers, which no floating-point mode changes.
 fn weigh_bits(bits: u64) -> Weighed
     ensures { λ r. ⌜ numbersOf r ≡ answerToNumber (wholeOf (ofBits binary64 bits)) ⌝ }
 {
@@ -111,7 +111,7 @@ pub fn weigh(cell: Cell) -> Weighed
     let Cell::Number(kg) = cell else {
         return Weighed::EmptyCell;
     };
-    // a NaN, which alone differs from itself
+    // a NaN, which alone differs from itself, in every mode
     if kg != kg {
         return Weighed::NotWhole;
     }
