@@ -8,6 +8,22 @@ cd "$(dirname "$0")/../.."
 . tests/c/build.sh
 prepare "$@"
 
+# The header compiles without a warning, and its helpers give the bytes written out by hand. C++ takes the machine's own g++.
+for standard in c99 c11; do
+    build "header-$standard" -std=$standard -Wpedantic tests/c/header.c
+    run "$target/header-$standard"
+done
+echo "header: as expected in C99 and C11"
+if command -v g++ >/dev/null; then
+    for standard in c++11 c++17; do
+        g++ -std=$standard -Wall -Wextra -Wpedantic -Werror -Iinclude -o "$target/header-$standard" tests/c/header.cpp
+        "$target/header-$standard"
+    done
+    echo "header: as expected in C++11 and C++17"
+else
+    echo "header: no g++ here, C++ not tried"
+fi
+
 build example tests/c/example.c "$library"
 run "$target/example" >"$target/example.txt"
 diff tests/c/example.txt "$target/example.txt"
