@@ -240,7 +240,7 @@ def cases_page():
     for example, wanted in zip(block[::3], block[1::3], strict=True):
         parts = [word.split("*") for word in example.split()]
         stream = b"".join(bytes.fromhex(part[0]) * int(part[1] if part[1:] else 1) for part in parts)
-        check(example, cases.printed(stream), wanted + "\n")
+        check(f"docs/CASES.md, {example}", cases.printed(stream), wanted + "\n")
 
 
 def main():
