@@ -7,8 +7,8 @@
 
 DIR gets cases.bin and cases.txt, and a pair stop-*.bin, stop-*.txt for each way in which input cannot be read.
 Every run with the same seed writes the same bytes; the stored cases are those of seed 1.
---store writes every stored file that the reference decides anew, and says what changed: the stored cases, their lines, and
-what the listing prints for its sample. --check only compares; its status is 1 where a file differs.
+--store writes the stored files anew that the reference decides, and says what changed: the stored cases, their
+lines, and what the listing prints for its sample. --check only compares; its status is 1 where one differs.
 """
 import argparse
 import os
@@ -85,7 +85,8 @@ def check():
     """Says in one line which stored files differ, and how they are made."""
     changed = [name for name, _, _ in stale()]
     if changed:
-        print(f"not what the reference gives: {', '.join(changed)}; python3 tests/make_cases.py --store writes them anew")
+        names = ", ".join(changed)
+        print(f"not what the reference gives: {names}; python3 tests/make_cases.py --store makes them anew")
     return 1 if changed else 0
 
 

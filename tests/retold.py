@@ -1,7 +1,7 @@
 """Document 01's step told a second time: the sources' tables as they stand there, and equation (1) of 000 in fractions.
 
-Row names, units and digits are the sources' own. Nothing here is taken from the reference, so that selftest.py sees a slip in a
-constant of either.
+Row names, units and digits are the sources' own. Nothing here is taken from the reference, so that selftest.py sees
+a slip in a constant of either.
 """
 from decimal import Context, Decimal
 from fractions import Fraction
@@ -19,13 +19,13 @@ DOC = {
     "domestic sludge": "5",
 }
 
-# Source 002, parameter k_i, 1/yr: boreal and temperate dry and wet, tropical dry and wet. The last row is a sentence of 000, table 7.
+# Source 002, parameter k_i, 1/yr: boreal and temperate dry and wet, tropical dry and wet.
 RATES = {
     "Pulp, paper, cardboard (other than sludge), textiles": ("0.04", "0.06", "0.045", "0.07"),
     "Wood, wood products and straw": ("0.02", "0.03", "0.025", "0.035"),
     "Other (non-food) organic putrescible garden and park waste": ("0.05", "0.10", "0.065", "0.17"),
     "Food, food waste, sewage sludge, beverages and tobacco": ("0.06", "0.185", "0.085", "0.40"),
-    "sludge from pulp and paper industry": ("0.03", "0.03", "0.03", "0.03"),
+    "sludge from pulp and paper industry": ("0.03", "0.03", "0.03", "0.03"),  # by a sentence of 000, table 7
 }
 
 # Source 000, data / parameter table 5: MCF_default of (a) to (d).

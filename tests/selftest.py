@@ -1,5 +1,5 @@
 #!/usr/bin/env python3
-"""Holds the reference to all that document 01 prints, to the step told again from the sources, and to demand 3 on random runs.
+"""Holds the reference to all that document 01 prints, to the sources' own tables, and to demand 3 on random runs.
 
 Prints ok and exits 0, or stops at the first check that fails.
 """
@@ -34,7 +34,7 @@ def offered(ledger=FRESH, **changes):
 
 def constants():
     """The constants of the reference are those of the sources' tables, in document 01's units."""
-    check("DOC", reference.DOC, tuple(int(row) * 100 for row in map(retold.DOC.get, (row for row, _ in retold.TYPES))))
+    check("DOC", reference.DOC, tuple(int(retold.DOC[row]) * 100 for row, _ in retold.TYPES))
     for climate in (1, 2, 3, 4):
         check(f"rates of climate {climate}", rates(climate), tuple(k * 1000 for k in retold.rates(climate)))
     check("MCF", reference.MCF, tuple(Fraction(factor) * 100 for factor in retold.MCF.values()))
@@ -60,16 +60,11 @@ def tables():
 
 def allowed():
     """The table of "One record": every value of every byte, the edges of the wider fields, and the refusal outside."""
-    for field, low, high, number in [
-        ("kind", 1, 2, 5),
-        ("climate", 1, 4, 5),
-        ("factor", 1, 100, 8),
-        ("OX", 0, 100, 8),
-        ("F", 0, 100, 8),
-        ("DOCf", 0, 100, 8),
-        ("site_class", 1, 4, 5),
-        ("GWP", 1, 100, 8),
-    ]:
+    codes = {"kind": 2, "climate": 4, "site_class": 4}  # from 1 up to this
+    ranges = {"factor": 1, "OX": 0, "F": 0, "DOCf": 0, "GWP": 1}  # from this up to 100
+    fields = [(field, 1, high, 5) for field, high in codes.items()]
+    fields += [(field, low, 100, 8) for field, low in ranges.items()]
+    for field, low, high, number in fields:
         for value in range(256):
             check(f"{field} {value}", offered(**{field: value}).refusal, 0 if low <= value <= high else number)
     for f, number in [(0, 0), (9999, 0), (10000, 0), (10001, 8), (65535, 8)]:
