@@ -1,3 +1,2 @@
-pub mod Row
 pub mod Takes
-pub mod Back
+pub mod Calls

@@ -1,107 +1,136 @@
--- What one record makes of the four buffers: an answer too short, a refusal, an acceptance.
+-- What one record, and a run, make of the buffers: where the image must be one, what it becomes, and what is left of the output.
 use mathlib.Core.Path.{_≡_, refl, sym, ap, _∙_}
 use mathlib.Core.Bool.{Bool, true, false, cond}
-use mathlib.Core.List.{List, [], _∷_, _++_}
+use mathlib.Core.List.{List, [], _∷_, _++_, append-nil}
 use Prim.Native.Nat.{ℕ, _≤_, _<_}
 use native.Mathlib.Decide.{ℕ-discrete}
 use native.Mathlib.Omega.{arith}
 use borrow.Author.Tests.{eq-eqb, ne-eqb, lt-ltb, le-ltb}
 use lib.Dec.{eqb, ltb}
-use lib.ListN.{length, drop}
+use lib.ListN.{length, take, drop, replicate, take-append-drop, drop-of-length-le}
+use lib.Seq.{take-all, length-take-le}
+use Rattle.ledger.specs.Stock.{fresh}
 use Rattle.ledger.specs.Refusal.{refusalOf}
 use Rattle.ledger.specs.Take.{acceptedOf, takeOf, writtenOf, outputRecord}
+use Rattle.ledger.specs.History.{Run, runOf}
 use Rattle.ledger.specs.declared.book.Ledger.{Ledger}
 use Rattle.ledger.specs.declared.answer.Answer.{Answer}
 use Rattle.ledger.proofs.Accepted.{accepted, has-room}
-use Rattle.ledger.proofs.Take.{taken, take-refusal}
-use Rattle.run.specs.Run.{Run, runOf}
-use Rattle.run.proofs.Runs.{refuses}
-use Rattle.abi.specs.Image.{isImage, saidBy, noLedger, ledgerOf, imageOf}
-use Rattle.abi.specs.Entries.{roomOf, answerRow, takeImage, takeOut, takeAnswer, runImage}
-use Rattle.abi.specs.Entries as entries
-use Rattle.abi.proofs.Row.{image-size}
+use Rattle.ledger.proofs.Take.{taken, take-refusal, refused-writes-nothing}
+use Rattle.ledger.proofs.History.{run-stops, run-ends}
+use Rattle.image.specs.Image.{imageBytes, isImage, noLedger, ledgerOf, imageOf, imaged}
+use Rattle.image.proofs.Laws.{image-size, image-fills}
+use Rattle.abi.specs.Entries.{answerBytes, roomOf, takeHere, takeImage, takeOut, runImage}
+
+-- The image of a fresh ledger is 136 zeros.
+pub fresh-zeros : imageOf fresh ≡ replicate 136 0
+unfolding imageOf fresh
+fresh-zeros = refl
 
 -- A record is accepted only where the bytes are an image.
-pub accepted-image : (image bytes : List ℕ) (room : ℕ) → refusalOf (ledgerOf image) bytes room ≡ 0 → length image ≡ 136
+accepted-image : (image bytes : List ℕ) (room : ℕ) → refusalOf (ledgerOf image) bytes room ≡ 0 → length image ≡ imageBytes
 unfolding ledgerOf noLedger
 accepted-image image bytes room e = by (isImage image) refl
   where
-    by : (b : Bool) → isImage image ≡ b → length image ≡ 136
+    by : (b : Bool) → isImage image ≡ b → length image ≡ imageBytes
     by true i = image-size image i
     by false i = absurd (omega (arith, accepted noLedger bytes room (simp i at e) .more))
 
-when-zero : (q : ℕ) (x y : List ℕ) → q ≡ 0 → cond (eqb q 0) x y ≡ x
+pub when-zero : (q : ℕ) (x y : List ℕ) → q ≡ 0 → cond (eqb q 0) x y ≡ x
 when-zero q x y e = ap (λ (b : Bool). cond b x y) (eq-eqb q 0 e)
 
-when-not : (q : ℕ) (x y : List ℕ) → (q ≡ 0 → ⊥) → cond (eqb q 0) x y ≡ y
+pub when-not : (q : ℕ) (x y : List ℕ) → (q ≡ 0 → ⊥) → cond (eqb q 0) x y ≡ y
 when-not q x y e = ap (λ (b : Bool). cond b x y) (ne-eqb q 0 e)
 
-module _ (image bytes out answer : List ℕ) where
+-- Where there is any room, all of the output is lent.
+room-all : (out answer : ℕ) → 0 < roomOf out answer → roomOf out answer ≡ out
+unfolding roomOf
+room-all out answer = by (ltb answer answerBytes)
+  where
+    by : (b : Bool) → 0 < cond b 0 out → cond b 0 out ≡ out
+    by true h = absurd (omega arith)
+    by false h = refl
+
+pub room-most : (out answer : ℕ) → roomOf out answer ≤ out
+unfolding roomOf
+room-most out answer = by (ltb answer answerBytes)
+  where
+    by : (b : Bool) → cond b 0 out ≤ out
+    by true = omega arith
+    by false = omega arith
+
+-- One record, with so much of the output lent.
+module _ (image bytes out answer : List ℕ) (room : ℕ) (e : room ≡ roomOf (length out) (length answer)) where
   abbrev l : Ledger
   l = ledgerOf image
 
+  abbrev part : List ℕ
+  part = take room out
+
   abbrev a : Answer
-  a = entries.taken image bytes out answer
+  a = takeHere image bytes out answer
 
-  -- An answer under 88 bytes leaves no room, so the record is refused and every buffer stays.
-  pub short : length answer < 88 → (refusalOf l bytes 0 ≡ a .refusal) × (image ≡ takeImage image bytes out answer) × (out ≡ takeOut image bytes out answer) × (answer ≡ takeAnswer image bytes out answer)
-  unfolding entries.taken roomOf takeImage takeOut takeAnswer
-  short h =
-      let is : refusalOf l bytes 0 ≡ takeOf l bytes 0 .refusal = sym (take-refusal l bytes 0) in
-      let none : takeOf l bytes 0 .refusal ≡ 0 → ⊥ = λ e. omega (arith, has-room l bytes 0 (is ∙ e)) in
-      simp (lt-ltb (length answer) 88 h, ne-eqb (takeOf l bytes 0 .refusal) 0 none) (is, refl, refl, refl)
+  pub part-length : length part ≡ room
+  part-length = length-take-le room out (rw e (room-most (length out) (length answer)))
 
-  module _ (h : 88 ≤ length answer) where
-    -- Otherwise the step decides.
-    pub long : a ≡ takeOf l bytes (length out)
-    unfolding entries.taken roomOf
-    long = simp (le-ltb (length answer) 88 h)
+  -- The step on that part is the step that is promised.
+  here : takeOf l bytes room ≡ a
+  unfolding takeHere
+  here = ap (takeOf l bytes) e
 
-    pub long-answer : takeAnswer image bytes out answer ≡ answerRow a ++ drop 88 answer
-    unfolding takeAnswer
-    long-answer = simp (le-ltb (length answer) 88 h)
+  pub step-is : takeOf l bytes (length part) ≡ a
+  step-is = ap (takeOf l bytes) part-length ∙ here
 
-    refusal-is : a .refusal ≡ refusalOf l bytes (length out)
-    refusal-is = ap (λ (x : Answer). x .refusal) long ∙ take-refusal l bytes (length out)
+  refusal-is : a .refusal ≡ refusalOf l bytes room
+  refusal-is = ap (λ (x : Answer). x .refusal) (sym here) ∙ take-refusal l bytes room
 
-    pub long-out : takeOut image bytes out answer ≡ writtenOf l bytes out
-    unfolding takeOut writtenOf
-    long-out =
-        elim (ℕ-discrete (refusalOf l bytes (length out)) 0) [
-          | yes e ↦ when-zero (a .refusal) _ out (refusal-is ∙ e)
-              ∙ ap (λ (x : Answer). outputRecord x ++ drop 48 out) (long ∙ taken l bytes (length out) e)
-              ∙ sym (when-zero (refusalOf l bytes (length out)) _ out e)
-          | no e ↦ when-not (a .refusal) _ out (λ z. e (sym refusal-is ∙ z)) ∙ sym (when-not (refusalOf l bytes (length out)) _ out e)
-        ]
+  pub out-is : {left : List ℕ} → left ≡ writtenOf l bytes part → left ++ drop room out ≡ takeOut image bytes out answer
+  unfolding takeOut writtenOf
+  out-is w =
+      elim (ℕ-discrete (refusalOf l bytes room) 0) [
+        | yes z ↦
+            let all : room ≡ length out = e ∙ room-all (length out) (length answer) (rw (← e) (omega (arith, has-room l bytes room z))) in
+            let whole : part ≡ out = take-all room out (omega arith) in
+            let none : drop room out ≡ [] = drop-of-length-le out {i = room} (omega arith) in
+            let z′ : refusalOf l bytes (length out) ≡ 0 = rw (← all) z in
+            rw (w, whole, none, append-nil, when-zero (refusalOf l bytes (length out)) (outputRecord (acceptedOf l bytes) ++ drop 48 out) out z′)
+            (sym (when-zero (a .refusal) (outputRecord a ++ drop 48 out) out (refusal-is ∙ z) ∙ rw (← here, taken l bytes room z)))
+        | no z ↦
+            let some : refusalOf l bytes (length part) ≡ 0 → ⊥ = λ y. z (rw part-length at y) in
+            rw (w, refused-writes-nothing l bytes part some)
+            (take-append-drop room out ∙ sym (when-not (a .refusal) (outputRecord a ++ drop 48 out) out (λ y. z (sym refusal-is ∙ y))))
+      ]
 
-    pub image-kept : (a .refusal ≡ 0 → ⊥) → takeImage image bytes out answer ≡ image
-    unfolding takeImage
-    image-kept e = when-not (a .refusal) _ image e
+  pub image-next : a .refusal ≡ 0 → imaged (a .ledger) image ≡ takeImage image bytes out answer
+  unfolding takeImage
+  image-next z =
+      image-fills (a .ledger) image (accepted-image image bytes room (sym refusal-is ∙ z))
+      ∙ sym (when-zero (a .refusal) (imageOf (a .ledger)) image z)
 
-    pub image-next : a .refusal ≡ 0 → takeImage image bytes out answer ≡ imageOf (a .ledger)
-    unfolding takeImage
-    image-next e = when-zero (a .refusal) (imageOf (a .ledger)) image e
-
-    -- where the step accepts, the bytes are an image
-    pub image-there : a .refusal ≡ 0 → length image ≡ 136
-    image-there e = accepted-image image bytes (length out) (sym refusal-is ∙ e)
+pub image-stays : (image bytes out answer : List ℕ) → (takeHere image bytes out answer .refusal ≡ 0 → ⊥) → takeImage image bytes out answer ≡ image
+unfolding takeImage
+image-stays image bytes out answer z =
+    let a = takeHere image bytes out answer in
+    when-not (a .refusal) (imageOf (a .ledger)) image z
 
 -- A run that accepts a record began from an image.
-pub ran-image : (image : List ℕ) (records : List (List ℕ)) (room : ℕ) → 0 < runOf (ledgerOf image) records room .accepted → length image ≡ 136
-unfolding runOf
-ran-image image [] room h = absurd (omega arith)
+ran-image : (image : List ℕ) (records : List (List ℕ)) (room : ℕ) → 0 < length (runOf (ledgerOf image) records room .accepted) → length image ≡ imageBytes
+ran-image image [] room h = absurd (omega (arith, ap (λ (r : Run). length (r .accepted)) (run-ends (ledgerOf image) room)))
 ran-image image (bytes ∷ rest) room h =
     elim (ℕ-discrete (refusalOf (ledgerOf image) bytes room) 0) [
       | yes e ↦ accepted-image image bytes room e
-      | no e ↦ let none : runOf (ledgerOf image) (bytes ∷ rest) room .accepted ≡ 0
-          = ap (λ (r : Run). r .accepted) (refuses (ledgerOf image) bytes rest room (refusalOf (ledgerOf image) bytes room) refl e) in absurd (omega arith)
+      | no e ↦ absurd (omega (arith, ap (λ (r : Run). length (r .accepted)) (run-stops (ledgerOf image) bytes rest room (refusalOf (ledgerOf image) bytes room) refl e)))
     ]
 
 -- The image that a run leaves.
-pub run-next : (image : List ℕ) (r : Run) → 0 < r .accepted → runImage image r ≡ imageOf (r .ledger)
+pub run-stays : (image : List ℕ) (r : Run) → length (r .accepted) ≡ 0 → runImage image r ≡ image
 unfolding runImage
-run-next image r h = when-not (r .accepted) image (imageOf (r .ledger)) (λ e. omega arith)
+run-stays image r e = when-zero (length (r .accepted)) image (imageOf (r .ledger)) e
 
-pub run-kept : (image : List ℕ) (r : Run) → r .accepted ≡ 0 → runImage image r ≡ image
+pub run-next : (image : List ℕ) (records : List (List ℕ)) (room : ℕ) → let r = runOf (ledgerOf image) records room in
+    0 < length (r .accepted) → imaged (r .ledger) image ≡ runImage image r
 unfolding runImage
-run-kept image r e = when-zero (r .accepted) image (imageOf (r .ledger)) e
+run-next image records room h =
+    let r = runOf (ledgerOf image) records room in
+    image-fills (r .ledger) image (ran-image image records room h)
+    ∙ sym (when-not (length (r .accepted)) image (imageOf (r .ledger)) (λ e. omega arith))

@@ -1,23 +1,23 @@
 // The entries for software that links the ledger from C: numbers and byte slices in, numbers and lent bytes out.
 // include/landfill.h is their description for the caller; each is thin over the proved crates.
-mod image;
-
 ghost use mathlib.Core.Bool.{cond};
 ghost use mathlib.Core.Path.{_≡_};
-ghost use Prim.Native.Nat.{_≤_};
 ghost use lib.Dec.{eqb};
-ghost use lib.ListN.{length, drop};
-ghost use mathlib.Core.List.{_++_};
+ghost use lib.ListN.{length};
 ghost use Rattle.decay.specs.Series.{entryOf};
 ghost use Rattle.door.specs.Cell.{answerTo};
 ghost use Rattle.door.specs.Point.{chartedOf};
+ghost use Rattle.ledger.specs.History.{outOf};
 ghost use Rattle.ledger.specs.Take.{totalsOf};
-ghost use Rattle.run.specs.Run.{outOf};
+ghost use Rattle.image.specs.Image.{imageBytes, ledgerOf};
 ghost use Rattle.line.specs.Listing.{listedOf, textOf};
-ghost use Rattle.abi.specs.Image.{imageBytes, ledgerOf};
-ghost use Rattle.abi.specs.Entries.{freshLeft, answerRow, taken, takeImage, takeOut, takeAnswer, runHere, runImage, cellOf};
+ghost use Rattle.abi.specs.Entries.{freshLeft, answered, roomOf, takeHere, takeImage, takeOut, takeAnswer, runHere, runImage, cellOf};
 use door::Cell;
 use ledger::Answer;
+use ledger::Ledger;
+
+// The bytes of an answer.
+const ANSWER_BYTES: usize = 88;
 
 // Answers the table entry of a rate in thousandths, kind 1 by year and 2 by month, and 0 for any other rate or kind.
 #[no_mangle]
@@ -36,20 +36,29 @@ pub extern "C" fn landfill_fresh(ledger: &mut [u8]) -> u8
     if ledger.len() != image::BYTES {
         return 3;
     }
-    image::write(ledger, ledger::Ledger::fresh());
+    image::write(ledger, Ledger::fresh());
     0
 }
 
-// Writes the eight releases, x0, figure and bound of an answer.
+// Writes the eight releases, x0, figure and bound of an answer. A buffer under 88 bytes keeps its values.
 fn write_answer(out: &mut [u8], answer: Answer)
-    requires { ⌜ 88 ≤ length (now out) ⌝ }
-    ensures { λ _. ⌜ now (out .exit) ≡ answerRow answer ++ drop 88 (now (out .entry)) ⌝ }
+    ensures { λ _. ⌜ now (out .exit) ≡ answered answer (now (out .entry)) ⌝ }
 {
+    if out.len() < ANSWER_BYTES {
+        return;
+    }
     let releases = answer.releases;
-    image::write_row(out, 0, releases);
+    numbers::write_eight(out, 0, releases);
     numbers::write_u64(out, 64, answer.x0);
     numbers::write_u64(out, 72, answer.figure);
     numbers::write_u64(out, 80, answer.bound);
+}
+
+// Answers the room for the output record: none where the answer has no room.
+fn room(out: usize, answer: usize) -> usize
+    ensures { λ r. ⌜ r ≡ roomOf out answer ⌝ }
+{
+    if answer < ANSWER_BYTES { 0 } else { out }
 }
 
 // Takes one record: the image, the output and the answer are written, or the refusal's number comes back.
@@ -60,16 +69,13 @@ pub extern "C" fn landfill_take(
     out: &mut [u8],
     answer: &mut [u8],
 ) -> u8
-    ensures { λ r. ⌜ r ≡ taken (now (ledger .entry)) (now («record» .entry)) (now (out .entry)) (now (answer .entry)) .refusal ⌝ }
+    ensures { λ r. ⌜ r ≡ takeHere (now (ledger .entry)) (now («record» .entry)) (now (out .entry)) (now (answer .entry)) .refusal ⌝ }
     ensures { λ _. ⌜ now (ledger .exit) ≡ takeImage (now (ledger .entry)) (now («record» .entry)) (now (out .entry)) (now (answer .entry)) ⌝ }
     ensures { λ _. ⌜ now (out .exit) ≡ takeOut (now (ledger .entry)) (now («record» .entry)) (now (out .entry)) (now (answer .entry)) ⌝ }
     ensures { λ _. ⌜ now (answer .exit) ≡ takeAnswer (now (ledger .entry)) (now («record» .entry)) (now (out .entry)) (now (answer .entry)) ⌝ }
 {
-    let before = image::read(ledger);
-    if answer.len() < 88 {
-        return before.refusal(record, 0);
-    }
-    let taken = before.take(record, out);
+    let room = room(out.len(), answer.len());
+    let taken = image::read(ledger).take(record, &mut out[..room]);
     write_answer(answer, taken);
     if taken.refusal == 0 {
         let after = taken.ledger;
@@ -90,9 +96,9 @@ pub extern "C" fn landfill_run(
     ensures { λ r. ⌜ r ≡ runHere (now (ledger .entry)) (now (records .entry)) (length (now (out .entry))) .refusal ⌝ }
     ensures { λ _. ⌜ now (ledger .exit) ≡ runImage (now (ledger .entry)) (runHere (now (ledger .entry)) (now (records .entry)) (length (now (out .entry)))) ⌝ }
     ensures { λ _. ⌜ now (out .exit) ≡ outOf (runHere (now (ledger .entry)) (now (records .entry)) (length (now (out .entry)))) (now (out .entry)) ⌝ }
-    ensures { λ _. ⌜ now (accepted .exit) ≡ runHere (now (ledger .entry)) (now (records .entry)) (length (now (out .entry))) .accepted ⌝ }
+    ensures { λ _. ⌜ now (accepted .exit) ≡ length (runHere (now (ledger .entry)) (now (records .entry)) (length (now (out .entry))) .accepted) ⌝ }
 {
-    let end = run::run(image::read(ledger), records, out);
+    let end = ledger::run(image::read(ledger), records, out);
     *accepted = end.accepted;
     if end.accepted > 0 {
         let last = end.ledger;

@@ -2,16 +2,21 @@
 use mathlib.Core.Path.{_≡_, refl, _∙_}
 use borrow.Author.Needs.{needs}
 use borrow.Author.Tests.{eq-eqb, ne-eqb}
+use denote.Ref.{now}
 use Rattle.ledger.specs.Stock.{fresh}
-use Rattle.abi.specs.Image.{imageOf}
+use Rattle.image.proofs.Laws.{image-fills}
 use Rattle.abi.specs.Entries.{freshLeft}
+use Rattle.abi.proofs.Takes.{fresh-zeros}
 use Rattle.abi.proofs.landfill_fresh.Statement.{statement}
 use Rattle.abi.proofs.landfill_fresh.Tie as tie
 
 returns-2 : tie.Need-returns-2
-unfolding freshLeft imageOf fresh
+unfolding freshLeft
 returns-2 c =
-    simp (eq-eqb _ _ (c .before .before .before .before .before .if1 .left)) (refl, c .before .before .write .ensures ∙ rw (c .before .before .before .fresh .ensures))
+    let test = c .before .before .before .before .before in
+    let size = test .if1 .left in
+    simp (eq-eqb _ _ size)
+    (refl, c .before .before .write .ensures ∙ rw (c .before .before .before .fresh .ensures) (image-fills fresh (now (test .before .before .args .ledger)) size ∙ fresh-zeros))
 
 pub landfill-fresh-spec : {M : Type 1} → statement M
 unfolding freshLeft

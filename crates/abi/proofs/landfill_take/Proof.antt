@@ -1,83 +1,73 @@
--- An answer too short leaves no room; otherwise the step decides, and the image follows it.
-use mathlib.Core.Path.{_≡_, refl, sym, ap, _∙_}
-use Prim.Native.Nat.{ℕ, _≤_}
+-- The step on the part that is lent decides; the answer and the image follow it.
+use mathlib.Core.Path.{_≡_, sym, ap, _∙_}
+use mathlib.Core.List.{_++_}
 use native.Mathlib.Omega.{arith}
 use borrow.Author.Needs.{needs}
 use denote.Ref.{now}
-use lib.ListN.{length}
+use lib.ListN.{length, drop}
 use Rattle.ledger.specs.declared.answer.Answer.{Answer}
-use Rattle.abi.specs.Entries.{taken}
-use Rattle.abi.proofs.Takes.{short, long, long-answer, long-out, image-kept, image-next, image-there}
+use Rattle.abi.specs.Entries.{answered, takeHere, takeOut, takeAnswer}
+use Rattle.abi.proofs.Takes.{room-most, part-length, step-is, out-is, image-next, image-stays}
 use Rattle.abi.proofs.landfill_take.Statement.{statement}
 use Rattle.abi.proofs.landfill_take.Tie as tie
 
+-- the answer of the step, and what it leaves in the output
+abbrev start : tie.After-take → tie.Start
+start c = c .before .before .before .before .before .before .before .before .before
+
+done : (c : tie.After-take) → let s = start c .args in
+    c .take .result ≡ takeHere (now (s .ledger)) (s .«record» .now) (now (s .out)) (now (s .answer))
+done c =
+    let s = start c .args in
+    let room = c .before .before .before .before .room in
+    (rw (c .before .before .read .ensures) at (c .take .ensures .0)) ∙ step-is (now (s .ledger)) (s .«record» .now) (now (s .out)) (now (s .answer)) (room .result) (room .ensures)
+
+written : (c : tie.After-take) → let s = start c .args in
+    c .take .last .1 .1 .0 ++ drop (c .before .before .before .before .room .result) (now (s .out)) ≡ takeOut (now (s .ledger)) (s .«record» .now) (now (s .out)) (now (s .answer))
+written c =
+    let s = start c .args in
+    let room = c .before .before .before .before .room in
+    out-is (now (s .ledger)) (s .«record» .now) (now (s .out)) (now (s .answer)) (room .result) (room .ensures) (rw (c .before .before .read .ensures) at (c .take .ensures .1))
+
+-- the answer that is left
+said : (c : tie.After-write-answer) → let s = start (c .before .before .before .before) .args in
+    c .write-answer .last .0 ≡ takeAnswer (now (s .ledger)) (s .«record» .now) (now (s .out)) (now (s .answer))
+unfolding takeAnswer
+said c =
+    let step = c .before .before .before .before in
+    c .write-answer .ensures ∙ ap (λ (a : Answer). answered a (now (start step .args .answer))) (done step)
+
 returns : tie.Need-returns
 returns c =
-    let s = c .before .before .before .before .before .before .before .before .args in
-    let image = now (s .ledger) in
-    let bytes = s .«record» .now in
-    let out = now (s .out) in
-    let answer = now (s .answer) in
-    let left = short image bytes out answer (c .before .if1 .taken) in
-    (c .refusal .ensures ∙ rw (c .before .before .read .ensures) (left .0), (left .1, (left .2, left .3)))
-
-write-requires : tie.Need-write-requires
-write-requires c κs =
-    let s = c .before .before .before .before .before .before .before .before .before .before .before .before .before .before .before .before .before .before .before .args in
-    let image = now (s .ledger) in
-    let bytes = s .«record» .now in
-    let out = now (s .out) in
-    let answer = now (s .answer) in
-    let enough : 88 ≤ length answer = omega (arith, c .before .before .before .before .before .before .before .before .before .before .before .before .if1 .left) in
-    let step = c .before .before .before .before .before .before .before .before .before .before .take in
-    let done : step .result ≡ taken image bytes out answer = (rw (c .before .before .before .before .before .before .before .before .before .before .before .before .before .read .ensures) at (step .ensures .0)) ∙ sym (long image bytes out answer enough) in
-    image-there image bytes out answer enough (sym (ap (λ (a : Answer). a .refusal) done) ∙ c .before .before .if2 .taken)
-
-returns-2 : tie.Need-returns-2
-returns-2 c =
-    let s = c .before .before .before .before .before .before .before .before .before .before .before .before .before .before .before .before .before .before .before .before .before .before .args in
-    let image = now (s .ledger) in
-    let bytes = s .«record» .now in
-    let out = now (s .out) in
-    let answer = now (s .answer) in
-    let enough : 88 ≤ length answer = omega (arith, c .before .before .before .before .before .before .before .before .before .before .before .before .before .before .before .if1 .left) in
-    let step = c .before .before .before .before .before .before .before .before .before .before .before .before .before .take in
-    let done : step .result ≡ taken image bytes out answer = (rw (c .before .before .before .before .before .before .before .before .before .before .before .before .before .before .before .before .read .ensures) at (step .ensures .0)) ∙ sym (long image bytes out answer enough) in
-    let none = sym (ap (λ (a : Answer). a .refusal) done) ∙ c .before .before .before .before .before .if2 .taken in (
-      ap (λ (a : Answer). a .refusal) done,
+    let answer = c .before .before .before .before .before .before .before .before .before in
+    let step = answer .before .before .before .before in
+    let s = start step .args in
+    let room = step .before .before .before .before .room in
+    let none = sym (ap (λ (a : Answer). a .refusal) (done step)) ∙ c .before .before .before .before .before .if1 .taken in (
+      ap (λ (a : Answer). a .refusal) (done step),
       (
-        c .before .before .write .ensures ∙ rw done (sym (image-next image bytes out answer enough none)),
-        (
-          (rw (c .before .before .before .before .before .before .before .before .before .before .before .before .before .before .before .before .read .ensures) at (step .ensures .1)) ∙ sym (long-out image bytes out answer enough),
-          c .before .before .before .before .before .before .before .before .before .write-answer .ensures ∙ rw done (sym (long-answer image bytes out answer enough)),
-        ),
+        c .before .before .write .ensures ∙ rw (done step) (image-next (now (s .ledger)) (s .«record» .now) (now (s .out)) (now (s .answer)) (room .result) (room .ensures) none),
+        (written step, said answer),
       ),
     )
 
-returns-3 : tie.Need-returns-3
-returns-3 c =
-    let s = c .before .before .before .before .before .before .before .before .before .before .before .before .before .before .before .before .before .args in
-    let image = now (s .ledger) in
-    let bytes = s .«record» .now in
-    let out = now (s .out) in
-    let answer = now (s .answer) in
-    let enough : 88 ≤ length answer = omega (arith, c .before .before .before .before .before .before .before .before .before .before .if1 .left) in
-    let step = c .before .before .before .before .before .before .before .before .take in
-    let done : step .result ≡ taken image bytes out answer = (rw (c .before .before .before .before .before .before .before .before .before .before .before .read .ensures) at (step .ensures .0)) ∙ sym (long image bytes out answer enough) in
-    let some : taken image bytes out answer .refusal ≡ 0 → ⊥ = λ z. c .if2 .left (ap (λ (a : Answer). a .refusal) done ∙ z) in (
-      ap (λ (a : Answer). a .refusal) done,
+returns-2 : tie.Need-returns-2
+returns-2 c =
+    let answer = c .before .before .before .before in
+    let step = answer .before .before .before .before in
+    let s = start step .args in (
+      ap (λ (a : Answer). a .refusal) (done step),
       (
-        sym (image-kept image bytes out answer enough some),
-        (
-          (rw (c .before .before .before .before .before .before .before .before .before .before .before .read .ensures) at (step .ensures .1)) ∙ sym (long-out image bytes out answer enough),
-          c .before .before .before .before .write-answer .ensures ∙ rw done (sym (long-answer image bytes out answer enough)),
-        ),
+        sym (image-stays (now (s .ledger)) (s .«record» .now) (now (s .out)) (now (s .answer)) (λ z. c .if1 .left (ap (λ (a : Answer). a .refusal) (done step) ∙ z))),
+        (written step, said answer),
       ),
     )
 
 pub landfill-take-spec : {M : Type 1} → statement M
 landfill-take-spec =
     tie.close
-    (tie.spec (λ c κs. search needs) (λ c κs. search needs) (λ c. search needs) returns (λ c κs. search needs)
-    (λ c κs. search needs) write-requires (λ c. search needs) (λ c. search needs) (λ c. search needs) returns-2
-    (λ c. search needs) (λ c. search needs) (λ c. search needs) returns-3)
+    (tie.spec (λ c κs. search needs) (λ c κs. search needs)
+    (λ c. let s = c .before .before .before .before .before .before .before .args in omega (arith, c .before .before .room .ensures, room-most (length (now (s .out))) (length (now (s .answer)))))
+    (λ c. let s = c .before .before .before .before .before .before .before .before .args in let room = c .before .before .before .room in sym (part-length (now (s .ledger)) (s .«record» .now) (now (s .out)) (now (s .answer)) (room .result) (room .ensures)))
+    (λ c κs. search needs) (λ c κs. search needs) (λ c κs. search needs) (λ c. search needs) (λ c. search needs)
+    (λ c. search needs) returns (λ c. search needs) (λ c. search needs) (λ c. search needs) returns-2)

@@ -3,7 +3,7 @@ use mathlib.Core.Path.{_≡_, ap}
 use borrow.Author.Needs.{needs}
 use Rattle.ledger.specs.Take.{totalsOf}
 use Rattle.ledger.specs.declared.answer.Totals.{Totals}
-use Rattle.abi.specs.Image.{ledgerOf}
+use Rattle.image.specs.Image.{ledgerOf}
 use Rattle.abi.proofs.landfill_totals.Statement.{statement}
 use Rattle.abi.proofs.landfill_totals.Tie as tie
 
