@@ -4,7 +4,6 @@ ghost use lib.Dec.{T};
 ghost use mathlib.Core.Bool.{not};
 ghost use lib.Ieee.{isNan};
 ghost use lib.ListN.{length};
-use crate::page;
 use door::Cell;
 
 // The bits of an infinity, and the sign's.
@@ -31,39 +30,34 @@ fn read_cell(payload: &[u8]) -> Cell
 }
 
 // Prints the answer to a cell.
-pub(crate) fn cell(payload: &[u8], page: &mut [u8], at: usize) -> usize
+pub(crate) fn cell(payload: &[u8])
     requires { ⌜ 9 ≤ length (now payload) ⌝ }
 {
     let answer = door::weigh(read_cell(payload)).numbers();
-    let mass_at = page::number(page, at, answer.refusal as u64, b' ');
-    page::number(page, mass_at, answer.mass as u64, b'\n')
+    print::number(answer.refusal as u64, b' ');
+    print::number(answer.mass as u64, b'\n');
 }
 
-// Puts the bits of a float and the byte that follows them.
-fn float(page: &mut [u8], at: usize, value: f64, follows: u8) -> usize
+// Prints the bits of a float and the byte that follows them.
+fn float(value: f64, follows: u8)
     requires { ⌜ T (not (isNan value)) ⌝ }
 {
-    page::bits(page, at, f64::to_bits(value), follows)
+    print::bits(f64::to_bits(value), follows);
 }
 
 // Prints the point of a figure and its bound.
-fn charted(figure: u64, bound: u64, page: &mut [u8], at: usize) -> usize {
+fn charted(figure: u64, bound: u64) {
     let answer = door::chart(figure, bound);
     let point = answer.point;
-    let figure_at = page::number(page, at, answer.refusal as u64, b' ');
-    let low_at = float(page, figure_at, point.figure, b' ');
-    let high_at = float(page, low_at, point.low, b' ');
-    float(page, high_at, point.high, b'\n')
+    print::number(answer.refusal as u64, b' ');
+    float(point.figure, b' ');
+    float(point.low, b' ');
+    float(point.high, b'\n');
 }
 
 // Prints a chart point.
-pub(crate) fn point(payload: &[u8], page: &mut [u8], at: usize) -> usize
+pub(crate) fn point(payload: &[u8])
     requires { ⌜ 16 ≤ length (now payload) ⌝ }
 {
-    charted(
-        numbers::read_u64(payload, 0),
-        numbers::read_u64(payload, 8),
-        page,
-        at,
-    )
+    charted(numbers::read_u64(payload, 0), numbers::read_u64(payload, 8));
 }
