@@ -23,19 +23,22 @@ fn fill(lent: &mut [u8]) {
     }
 }
 
-// Answers the smaller of two lengths.
-fn least(a: u64, b: usize) -> usize
-    ensures { λ r. ⌜ r ≤ b ⌝ }
-{
-    if a < b as u64 { a as usize } else { b }
-}
-
 // Answers the room that a case asks for, at most the longest and at most what there is to lend.
-fn room_of(asked: u64, lent: usize) -> usize
+fn least(asked: u64, lent: usize) -> usize
     ensures { λ r. ⌜ r ≤ lent ⌝ }
 {
-    let room = least(asked, LONGEST);
-    least(room as u64, lent)
+    if asked < lent as u64 {
+        asked as usize
+    } else {
+        lent
+    }
+}
+
+// Answers the output that a case asks for, filled: at most the longest, and at most what there is to lend.
+fn room(asked: u64, lent: &mut [u8]) -> &mut [u8] {
+    let length = least(asked, least(LONGEST as u64, lent.len()));
+    fill(&mut lent[0..length]);
+    &mut lent[0..length]
 }
 
 // Answers the ledger of a payload, whose image stands first.
@@ -47,40 +50,35 @@ fn ledger_of(payload: &[u8]) -> Ledger
 
 // Prints the 19 numbers of a ledger with a space after each.
 fn put_ledger(ledger: Ledger) {
-    let head = [ledger.n as u64, ledger.kind as u64, ledger.climate as u64];
     let brought = ledger.brought;
     let stock = ledger.stock;
-    print::numbers(&head);
-    print::numbers(&brought);
-    print::numbers(&stock);
+    print::number(ledger.n as u64, b' ');
+    print::number(ledger.kind as u64, b' ');
+    print::number(ledger.climate as u64, b' ');
+    print::eight(brought);
+    print::eight(stock);
 }
 
 // Prints the numbers of a step's answer with a space after each.
 fn put_answer(answer: Answer) {
     let ledger = answer.ledger;
     let releases = answer.releases;
-    let last = [answer.x0, answer.figure, answer.bound];
     print::number(answer.refusal as u64, b' ');
     put_ledger(ledger);
-    print::numbers(&releases);
-    print::numbers(&last);
-}
-
-// Takes one record and prints the answer and the output.
-fn step_with(payload: &[u8], lent: &mut [u8])
-    requires { ⌜ 138 ≤ length (now payload) ⌝ }
-{
-    fill(lent);
-    put_answer(ledger_of(payload).take(&payload[138..], lent));
-    print::bytes(lent);
+    print::eight(releases);
+    print::number(answer.x0, b' ');
+    print::number(answer.figure, b' ');
+    print::number(answer.bound, b' ');
 }
 
 // Prints one step, with the room that the case asks for.
 pub(crate) fn step(payload: &[u8], lent: &mut [u8])
     requires { ⌜ 138 ≤ length (now payload) ⌝ }
 {
-    let room = room_of(numbers::read_u16(payload, 136), lent.len());
-    step_with(payload, &mut lent[0..room]);
+    let out = room(numbers::read_u16(payload, 136), lent);
+    let answer = ledger_of(payload).take(&payload[138..], out);
+    put_answer(answer);
+    print::bytes(out);
 }
 
 // Prints the numbers of a run's answer with a space after each.
@@ -91,21 +89,14 @@ fn put_outcome(outcome: Outcome) {
     put_ledger(ledger);
 }
 
-// Runs the records and prints the answer and the output.
-fn run_with(payload: &[u8], lent: &mut [u8])
-    requires { ⌜ 140 ≤ length (now payload) ⌝ }
-{
-    fill(lent);
-    put_outcome(ledger::run(ledger_of(payload), &payload[140..], lent));
-    print::bytes(lent);
-}
-
 // Prints a whole run, with the room that the case asks for.
 pub(crate) fn run(payload: &[u8], lent: &mut [u8])
     requires { ⌜ 140 ≤ length (now payload) ⌝ }
 {
-    let room = room_of(numbers::read_u32(payload, 136), lent.len());
-    run_with(payload, &mut lent[0..room]);
+    let out = room(numbers::read_u32(payload, 136), lent);
+    let outcome = ledger::run(ledger_of(payload), &payload[140..], out);
+    put_outcome(outcome);
+    print::bytes(out);
 }
 
 // Prints the listing of a file.

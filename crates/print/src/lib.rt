@@ -1,9 +1,9 @@
 // Words of plain text on standard output, for a program whose lines are compared: numbers, the bits of floats, and bytes.
-// They are gathered on a page, and a full page is written out; a write that fails is passed over.
+// A write that fails is passed over.
 ghost use Prim.Native.Nat.{_<_};
 use libc::STDOUT_FILENO;
 
-// The bytes of a page.
+// The bytes of a page, on which long words are gathered.
 const PAGE: usize = 4096;
 
 // Prints a text as it stands.
@@ -11,8 +11,40 @@ pub fn text(of: &[u8]) {
     io::write_all(STDOUT_FILENO, of);
 }
 
-// Puts a byte on the page, and answers the place after it.
-fn byte(page: &mut [u8], at: usize, of: u8) -> usize {
+// Prints the byte that follows a word.
+fn end(follows: u8) {
+    let one = [follows];
+    text(&one);
+}
+
+// Prints a number in plain decimal and the byte that follows it.
+pub fn number(n: u64, follows: u8) {
+    io::print_decimal(STDOUT_FILENO, n);
+    end(follows);
+}
+
+// Prints eight numbers with a space after each.
+pub fn eight(of: [u64; 8]) {
+    for t in 0..8 {
+        number(of[t], b' ');
+    }
+}
+
+// Prints the 16 hex digits of a float's bits and the byte that follows them.
+pub fn bits(pattern: u64, follows: u8) {
+    io::print_hex(STDOUT_FILENO, pattern, 16);
+    end(follows);
+}
+
+// Answers the hex digit of a number.
+fn digit(n: u8) -> u8
+    requires { ⌜ n < 16 ⌝ }
+{
+    if n < 10 { b'0' + n } else { b'a' + (n - 10) }
+}
+
+// Puts a byte on the page, and answers the place after it; a full page is written out.
+fn put(page: &mut [u8], at: usize, of: u8) -> usize {
     if at < page.len() {
         page[at] = of;
         return at + 1;
@@ -25,97 +57,37 @@ fn byte(page: &mut [u8], at: usize, of: u8) -> usize {
     1
 }
 
-// Puts a word on the page, and the byte that follows it.
-fn word(page: &mut [u8], at: usize, of: &[u8], follows: u8) -> usize {
-    let mut next = at;
-    let mut i: usize = 0;
-    while i < of.len() {
-        next = byte(page, next, of[i]);
-        i += 1;
-    }
-    byte(page, next, follows)
+// Puts the two hex digits of a byte.
+fn put_pair(page: &mut [u8], at: usize, of: u8) -> usize {
+    let second = put(page, at, digit(of / 16));
+    put(page, second, digit(of % 16))
 }
 
-// Writes out what stands on the page.
+// Puts bytes as hex from the start of the page on, and answers the place after the last.
+fn put_all(page: &mut [u8], of: &[u8]) -> usize {
+    let mut next: usize = 0;
+    let mut i: usize = 0;
+    while i < of.len() {
+        next = put_pair(page, next, of[i]);
+        i += 1;
+    }
+    next
+}
+
+// Prints what stands on the page ahead of a place.
 fn flush(page: &[u8], at: usize) {
     if at <= page.len() {
         text(&page[0..at]);
     }
 }
 
-// Puts a number in plain decimal and the byte that follows it.
-fn decimal(page: &mut [u8], at: usize, n: u64, follows: u8) -> usize {
-    let mut digits = [0u8; 20];
-    let count = io::decimal(n, &mut digits);
-    word(page, at, &digits[..count], follows)
-}
-
-// Puts numbers with a space after each.
-fn decimals(page: &mut [u8], of: &[u64]) -> usize {
-    let mut next: usize = 0;
-    let mut i: usize = 0;
-    while i < of.len() {
-        next = decimal(page, next, of[i], b' ');
-        i += 1;
-    }
-    next
-}
-
-// Prints numbers in plain decimal with a space after each.
-pub fn numbers(of: &[u64]) {
-    let mut page = [0u8; PAGE];
-    let end = decimals(&mut page, of);
-    flush(&page, end);
-}
-
-// Prints a number in plain decimal and the byte that follows it.
-pub fn number(n: u64, follows: u8) {
-    let mut page = [0u8; 21];
-    let end = decimal(&mut page, 0, n, follows);
-    flush(&page, end);
-}
-
-// Prints the 16 hex digits of a float's bits and the byte that follows them.
-pub fn bits(pattern: u64, follows: u8) {
-    let mut digits = [0u8; 16];
-    let count = io::hex(pattern, 16, &mut digits);
-    let mut page = [0u8; 17];
-    let end = word(&mut page, 0, &digits[..count], follows);
-    flush(&page, end);
-}
-
-// Answers the hex digit of a number.
-fn digit(n: u8) -> u8
-    requires { ⌜ n < 16 ⌝ }
-{
-    if n < 10 { b'0' + n } else { b'a' + (n - 10) }
-}
-
-// Puts the two hex digits of a byte.
-fn pair(page: &mut [u8], at: usize, of: u8) -> usize {
-    let second = byte(page, at, digit(of / 16));
-    byte(page, second, digit(of % 16))
-}
-
-// Puts bytes as hex.
-fn pairs(page: &mut [u8], of: &[u8]) -> usize {
-    let mut next: usize = 0;
-    let mut i: usize = 0;
-    while i < of.len() {
-        next = pair(page, next, of[i]);
-        i += 1;
-    }
-    next
-}
-
 // Prints bytes as hex, or a dash where there are none, and ends the line.
 pub fn bytes(of: &[u8]) {
     if of.len() == 0 {
-        text(b"-\n");
-        return;
+        text(b"-");
     }
     let mut page = [0u8; PAGE];
-    let end = pairs(&mut page, of);
-    flush(&page, end);
-    text(b"\n");
+    let at = put_all(&mut page, of);
+    flush(&page, at);
+    end(b'\n');
 }
