@@ -5,6 +5,7 @@ ghost use mathlib.Core.Bool.{not};
 ghost use lib.Ieee.{isNan};
 ghost use lib.ListN.{length};
 use door::Cell;
+use door::Numbers;
 
 // The bits of an infinity, and the sign's.
 const INFINITY: u64 = 0x7ff0_0000_0000_0000;
@@ -30,12 +31,16 @@ fn read_cell(payload: &[u8]) -> Cell
 }
 
 // Prints the answer to a cell.
+fn put_numbers(answer: Numbers) {
+    print::number(answer.refusal as u64, b' ');
+    print::number(answer.mass as u64, b'\n');
+}
+
+// Prints a cell.
 pub(crate) fn cell(payload: &[u8])
     requires { ⌜ 9 ≤ length (now payload) ⌝ }
 {
-    let answer = door::weigh(read_cell(payload)).numbers();
-    print::number(answer.refusal as u64, b' ');
-    print::number(answer.mass as u64, b'\n');
+    put_numbers(door::weigh(read_cell(payload)).numbers());
 }
 
 // Prints the bits of a float and the byte that follows them.

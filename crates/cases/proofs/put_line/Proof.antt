@@ -7,11 +7,11 @@ pub put-line-spec : {M : Type 1} → statement M
 put-line-spec =
     tie.close
     (tie.spec
-    (λ c κs. rw (c .match .keys1) at (c .before .before .before .pre))
-    (λ c κs. rw (c .before .match .keys2) at (c .before .before .before .before .pre))
-    (λ c κs. rw (c .before .match .keys3) at (c .before .before .before .before .pre))
+    (λ c κs. rw (c .match .keys1) at (c .before .before .pre))
+    (λ c κs. rw (c .match .keys2) at (c .before .before .pre))
+    (λ c κs. rw (c .match .keys3) at (c .before .before .pre))
     (λ c κs. search needs)
-    (λ c κs. rw (c .match .keys5) at (c .before .before .before .pre))
-    (λ c κs. rw (c .match .keys6) at (c .before .before .before .pre))
+    (λ c κs. rw (c .match .keys5) at (c .before .before .pre))
+    (λ c κs. rw (c .match .keys6) at (c .before .before .pre))
     (λ c. search needs) (λ c. search needs) (λ c. search needs) (λ c. search needs) (λ c. search needs)
-    (λ c. search needs) (λ c. search needs) (λ c. search needs) (λ c. search needs) (λ c. search needs))
+    (λ c. search needs) (λ c. search needs))
