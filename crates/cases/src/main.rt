@@ -1,44 +1,78 @@
 // Reads cases from standard input and prints one line for each, so that vectors are run against the ledger and compared.
 // docs/CASES.md says what a case is and what its line holds; the tests run it.
-mod door_lines;
-mod kind;
-mod ledger_lines;
-
+ghost use mathlib.Core.Path.{_≡_};
 ghost use Prim.Native.Nat.{_≤_};
-ghost use lib.ListN.{length};
-ghost use Rattle.cases.specs.Kind.{leastOf};
 
-// Prints the line of a case by its letter.
-fn put_line(letter: u8, payload: &[u8])
-    requires { ⌜ leastOf letter ≤ length (now payload) ⌝ }
+// What follows in the input: a case, nothing, or something that is no case.
+const CASE: u8 = 0;
+
+const NOTHING: u8 = 1;
+
+const TRUNCATED: u8 = 2;
+
+const UNKNOWN_KIND: u8 = 3;
+
+const BAD_LENGTH: u8 = 4;
+
+// What the five bytes of a header say.
+struct Header {
+    letter: u8,
+    length: usize,
+    follows: u8,
+}
+
+// Answers what follows a header of which so many bytes were read.
+fn follows(got: usize, letter: u8, length: usize) -> u8
+    ensures { λ r. ⌜ (r ≡ 0 → length ≤ 65536) ⌝ }
 {
-    match letter {
-        b'd' => ledger_lines::decay(payload),
-        b's' => ledger_lines::step(payload),
-        b'r' => ledger_lines::run(payload),
-        b'l' => ledger_lines::listing(payload),
-        b'c' => door_lines::cell(payload),
-        b'p' => door_lines::point(payload),
-        _ => (),
+    if got == 0 {
+        return NOTHING;
+    }
+    if got < 5 {
+        return TRUNCATED;
+    }
+    let lengths = vector::lengths_of(letter);
+    if lengths.most < lengths.least {
+        return UNKNOWN_KIND;
+    }
+    if length < lengths.least {
+        return BAD_LENGTH;
+    }
+    if lengths.most < length {
+        return BAD_LENGTH;
+    }
+    CASE
+}
+
+// Reads a header.
+fn read_header() -> Header
+    ensures { λ r. ⌜ (r .follows ≡ 0 → r .length ≤ 65536) ⌝ }
+{
+    let mut bytes = [0u8; 5];
+    let got = io::read_full(libc::STDIN_FILENO, &mut bytes);
+    let letter = bytes[0];
+    let length = numbers::read_u32(&bytes, 1) as usize;
+    Header {
+        letter,
+        length,
+        follows: follows(got, letter, length),
     }
 }
 
 // Reads the payload of a case and prints its line; answers what follows.
-fn whole_case(letter: u8, payload: &mut [u8]) -> u8
-    requires { ⌜ leastOf letter ≤ length (now payload) ⌝ }
-{
+fn whole_case(letter: u8, payload: &mut [u8]) -> u8 {
     let got = io::read_full(libc::STDIN_FILENO, payload);
     if got < payload.len() {
-        return kind::TRUNCATED;
+        return TRUNCATED;
     }
-    put_line(letter, payload);
-    kind::CASE
+    vector::put_line(letter, payload);
+    CASE
 }
 
 // Reads one case and prints its line; answers what follows.
 fn one_case() -> u8 {
-    let header = kind::read();
-    if header.follows != kind::CASE {
+    let header = read_header();
+    if header.follows != CASE {
         return header.follows;
     }
     let mut payload = io::large_buffer();
@@ -46,14 +80,24 @@ fn one_case() -> u8 {
     whole_case(header.letter, &mut payload[0..length])
 }
 
+// Prints why a case cannot be read; the end of the input prints nothing.
+fn tell(follows: u8) {
+    match follows {
+        TRUNCATED => print::text(b"truncated\n"),
+        UNKNOWN_KIND => print::text(b"unknown kind\n"),
+        BAD_LENGTH => print::text(b"bad length\n"),
+        _ => (),
+    }
+}
+
 // Reads cases until the input ends or one cannot be read, and prints why. A proved loop ends, so it counts down from a number
 // that no input uses up.
 fn main() {
-    let mut follows = kind::CASE;
+    let mut follows = CASE;
     let mut left = u64::MAX;
-    while left > 0 && follows == kind::CASE {
+    while left > 0 && follows == CASE {
         follows = one_case();
         left -= 1;
     }
-    kind::tell(follows);
+    tell(follows);
 }

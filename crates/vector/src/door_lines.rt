@@ -1,8 +1,5 @@
 // The lines of the spreadsheet's cases: cell and chart point.
 ghost use Prim.Native.Nat.{_≤_};
-ghost use lib.Dec.{T};
-ghost use mathlib.Core.Bool.{not};
-ghost use lib.Ieee.{isNan};
 ghost use lib.ListN.{length};
 use door::Cell;
 use door::Numbers;
@@ -43,21 +40,14 @@ pub(crate) fn cell(payload: &[u8])
     put_numbers(door::weigh(read_cell(payload)).numbers());
 }
 
-// Prints the bits of a float and the byte that follows them.
-fn float(value: f64, follows: u8)
-    requires { ⌜ T (not (isNan value)) ⌝ }
-{
-    print::bits(f64::to_bits(value), follows);
-}
-
 // Prints the point of a figure and its bound.
 fn charted(figure: u64, bound: u64) {
     let answer = door::chart(figure, bound);
     let point = answer.point;
     print::number(answer.refusal as u64, b' ');
-    float(point.figure, b' ');
-    float(point.low, b' ');
-    float(point.high, b'\n');
+    print::bits(f64::to_bits(point.figure), b' ');
+    print::bits(f64::to_bits(point.low), b' ');
+    print::bits(f64::to_bits(point.high), b'\n');
 }
 
 // Prints a chart point.

@@ -2,7 +2,7 @@
 ghost use mathlib.Core.Path.{_≡_};
 ghost use Prim.Native.Nat.{_≤_};
 ghost use lib.ListN.{length};
-use crate::kind::LONGEST;
+use crate::LONGEST;
 use ledger::Answer;
 use ledger::Ledger;
 use ledger::Outcome;
