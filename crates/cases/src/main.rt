@@ -3,6 +3,9 @@
 ghost use mathlib.Core.Path.{_≡_};
 ghost use Prim.Native.Nat.{_≤_};
 
+// The longest payload.
+const LONGEST: usize = 65536;
+
 // What follows in the input: a case, nothing, or something that is no case.
 const CASE: u8 = 0;
 
@@ -21,6 +24,34 @@ struct Header {
     follows: u8,
 }
 
+// Answers whether a case follows whose payload may have any length from a least to a most.
+fn within(least: usize, length: usize, most: usize) -> u8
+    ensures { λ r. ⌜ (r ≡ 0 → length ≤ most) ⌝ }
+{
+    if length < least {
+        return BAD_LENGTH;
+    }
+    if most < length {
+        return BAD_LENGTH;
+    }
+    CASE
+}
+
+// Answers what follows a letter and the length of its payload.
+fn judged(letter: u8, length: usize) -> u8
+    ensures { λ r. ⌜ (r ≡ 0 → length ≤ 65536) ⌝ }
+{
+    match letter {
+        b'd' => within(3, length, 3),
+        b's' => within(138, length, LONGEST),
+        b'r' => within(140, length, LONGEST),
+        b'l' => within(0, length, LONGEST),
+        b'c' => within(9, length, 9),
+        b'p' => within(16, length, 16),
+        _ => UNKNOWN_KIND,
+    }
+}
+
 // Answers what follows a header of which so many bytes were read.
 fn follows(got: usize, letter: u8, length: usize) -> u8
     ensures { λ r. ⌜ (r ≡ 0 → length ≤ 65536) ⌝ }
@@ -31,17 +62,7 @@ fn follows(got: usize, letter: u8, length: usize) -> u8
     if got < 5 {
         return TRUNCATED;
     }
-    let lengths = vector::lengths_of(letter);
-    if lengths.most < lengths.least {
-        return UNKNOWN_KIND;
-    }
-    if length < lengths.least {
-        return BAD_LENGTH;
-    }
-    if lengths.most < length {
-        return BAD_LENGTH;
-    }
-    CASE
+    judged(letter, length)
 }
 
 // Reads a header.
@@ -59,13 +80,26 @@ fn read_header() -> Header
     }
 }
 
+// Prints the line of a case by its letter.
+fn put_line(letter: u8, payload: &[u8]) {
+    match letter {
+        b'd' => ledger_cases::decay(payload),
+        b's' => ledger_cases::step(payload),
+        b'r' => ledger_cases::run(payload),
+        b'l' => ledger_cases::listing(payload),
+        b'c' => door_cases::cell(payload),
+        b'p' => door_cases::point(payload),
+        _ => (),
+    }
+}
+
 // Reads the payload of a case and prints its line; answers what follows.
 fn whole_case(letter: u8, payload: &mut [u8]) -> u8 {
     let got = io::read_full(libc::STDIN_FILENO, payload);
     if got < payload.len() {
         return TRUNCATED;
     }
-    vector::put_line(letter, payload);
+    put_line(letter, payload);
     CASE
 }
 

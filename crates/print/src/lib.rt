@@ -23,6 +23,13 @@ pub fn number(n: u64, follows: u8) {
     end(follows);
 }
 
+// Prints three numbers with a space after each.
+pub fn three(a: u64, b: u64, c: u64) {
+    number(a, b' ');
+    number(b, b' ');
+    number(c, b' ');
+}
+
 // Prints eight numbers with a space after each.
 pub fn eight(of: [u64; 8]) {
     for t in 0..8 {

@@ -5,8 +5,8 @@ use borrow.Author.Needs.{needs}
 use borrow.Author.Tests.{le-ltb}
 use lib.Ieee.{binary64, nanBits}
 use lib.Ieee.Bits.{nanBits-above}
-use Rattle.vector.proofs.door_lines.float_of.Statement.{statement}
-use Rattle.vector.proofs.door_lines.float_of.Tie as tie
+use Rattle.door_cases.proofs.float_of.Statement.{statement}
+use Rattle.door_cases.proofs.float_of.Tie as tie
 
 float-from-bits-result : tie.Need-float-from-bits-result
 float-from-bits-result c =

@@ -1,8 +1,8 @@
 -- What `chart` answers are numbers, so each has its bits.
 use borrow.Author.Needs.{needs}
-use Rattle.vector.proofs.Floats.{AreNumbers, chart-numbers}
-use Rattle.vector.proofs.door_lines.charted.Statement.{statement}
-use Rattle.vector.proofs.door_lines.charted.Tie as tie
+use Rattle.door_cases.proofs.Floats.{AreNumbers, chart-numbers}
+use Rattle.door_cases.proofs.charted.Statement.{statement}
+use Rattle.door_cases.proofs.charted.Tie as tie
 
 numbers : (c : tie.After-chart) → AreNumbers (c .chart .result .point)
 numbers c = rw (c .chart .ensures) (chart-numbers (c .before .args .figure) (c .before .args .bound))

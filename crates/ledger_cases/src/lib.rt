@@ -1,0 +1,116 @@
+// The cases of the ledger, as docs/CASES.md has them: look-up, step, run and listing. Each prints the line of its payload on
+// standard output, and nothing for a payload that is too short for it. The program `cases` calls them.
+ghost use mathlib.Core.Path.{_≡_};
+ghost use Prim.Native.Nat.{_≤_};
+ghost use lib.ListN.{length};
+use ledger::Answer;
+use ledger::Ledger;
+use ledger::Outcome;
+
+// The longest output that is lent.
+const LONGEST: usize = 65536;
+
+// The longest text of a listing: a line of 90 bytes for every 48 bytes begun of the longest file.
+const LONGEST_TEXT: usize = (65536 + 47) / 48 * 90;
+
+// Prints the entry of a rate.
+pub fn decay(payload: &[u8]) {
+    if payload.len() < 3 {
+        return;
+    }
+    let entry = decay::entry(payload[0], numbers::read_u16(payload, 1) as u16);
+    print::number(entry as u64, b'\n');
+}
+
+// Answers an output of the longest length, filled so that a byte that keeps its value is seen.
+fn output() -> [u8; LONGEST]
+    ensures { λ r. ⌜ 65536 ≡ length r ⌝ }
+{
+    [0xA5; LONGEST]
+}
+
+// Answers the ledger of a payload, whose image stands first.
+fn ledger_of(payload: &[u8]) -> Ledger
+    requires { ⌜ 136 ≤ length (now payload) ⌝ }
+{
+    image::read(&payload[0..image::BYTES])
+}
+
+// Prints the 19 numbers of a ledger with a space after each.
+fn put_ledger(ledger: Ledger) {
+    let brought = ledger.brought;
+    let stock = ledger.stock;
+    print::three(ledger.n as u64, ledger.kind as u64, ledger.climate as u64);
+    print::eight(brought);
+    print::eight(stock);
+}
+
+// Prints the numbers of a step's answer with a space after each.
+fn put_answer(answer: Answer) {
+    let ledger = answer.ledger;
+    let releases = answer.releases;
+    print::number(answer.refusal as u64, b' ');
+    put_ledger(ledger);
+    print::eight(releases);
+    print::three(answer.x0, answer.figure, answer.bound);
+}
+
+// Prints one step, with the room that the case asks for.
+pub fn step(payload: &[u8]) {
+    if payload.len() < 138 {
+        return;
+    }
+    let mut out = output();
+    let room = numbers::read_u16(payload, 136) as usize;
+    let lent = &mut out[0..room];
+    let answer = ledger_of(payload).take(&payload[138..], lent);
+    put_answer(answer);
+    print::bytes(lent);
+}
+
+// Prints the numbers of a run's answer with a space after each.
+fn put_outcome(outcome: Outcome) {
+    let ledger = outcome.ledger;
+    print::number(outcome.accepted, b' ');
+    print::number(outcome.refusal as u64, b' ');
+    put_ledger(ledger);
+}
+
+// Answers the room that a run asks for, at most the longest.
+fn room_of(asked: u64) -> usize
+    ensures { λ r. ⌜ r ≤ 65536 ⌝ }
+{
+    if asked < LONGEST as u64 {
+        asked as usize
+    } else {
+        LONGEST
+    }
+}
+
+// Prints a whole run, with the room that the case asks for.
+pub fn run(payload: &[u8]) {
+    if payload.len() < 140 {
+        return;
+    }
+    let mut out = output();
+    let room = room_of(numbers::read_u32(payload, 136));
+    let lent = &mut out[0..room];
+    let outcome = ledger::run(ledger_of(payload), &payload[140..], lent);
+    put_outcome(outcome);
+    print::bytes(lent);
+}
+
+// Answers room for the text of any listing.
+fn text() -> [u8; LONGEST_TEXT]
+    ensures { λ r. ⌜ 122940 ≡ length r ⌝ }
+{
+    [0; LONGEST_TEXT]
+}
+
+// Prints the listing of a file.
+pub fn listing(payload: &[u8]) {
+    let mut text = text();
+    let listed = line::listing(payload, &mut text);
+    let length = listed.length;
+    print::bytes(&text[..length]);
+}
