@@ -113,6 +113,18 @@ module _ (l : Ledger) (bytes : List ℕ) (a : Accepted l bytes) (t : ℕ) (h : t
   unfolding release held newBrought
   release-most = omega (arith, a .ledger .at t h .kept)
 
+-- Inert waste, type 6, has a ceiling of 0, and so T, R and G of 0.
+pub record NoneAt (l : Ledger) (bytes : List ℕ) (t : ℕ) : Type 0 where
+  pub T : newBrought l bytes t ≡ 0
+  pub R : newStock l bytes t ≡ 0
+  pub G : release l bytes t ≡ 0
+
+pub no-carbon : (l : Ledger) (bytes : List ℕ) → Accepted l bytes → NoneAt l bytes 5
+unfolding ceilingOf carbonOf
+no-carbon l bytes a =
+    let T : newBrought l bytes 5 ≡ 0 = omega (arith, new-within l bytes a 5 (omega arith)) in
+    record { T = T; R = omega (arith, new-kept l bytes a 5 (omega arith)); G = omega (arith, release-most l bytes a 5 (omega arith)) }
+
 -- A sound ledger that takes a record is sound again.
 pub stays-sound : (l : Ledger) (bytes : List ℕ) → Accepted l bytes → sound (after l bytes) ≡ true
 unfolding after

@@ -9,7 +9,7 @@ ghost use Rattle.numbers.specs.Eight.{eight};
 ghost use Rattle.numbers.specs.Fault.{firstOf, ahead};
 ghost use Rattle.decay.specs.Series.{isKind};
 ghost use Rattle.waste.specs.Waste.{isClimate};
-ghost use Rattle.record.specs.Fields.{kindOf, climateOf};
+ghost use Rattle.record.specs.Fields.{kindOf, climateOf, factorsOf};
 ghost use Rattle.stock.specs.Stock.{entryAt};
 ghost use Rattle.ledger.specs.Stock.{fresh, newStock, release, decayedAt, periodOfAll};
 ghost use Rattle.ledger.specs.Refusal.{sound, continues, faultsOf, refusalOf};
@@ -80,8 +80,10 @@ impl Ledger {
         (record::kind(bytes) == self.kind) & (record::climate(bytes) == self.climate)
     }
 
-    // Answers the refusal that everything ahead of the masses (9) decides, 0 if none; `good` says whether the ledger is sound.
-    pub(crate) fn early_refusal(self, good: bool, bytes: &[u8], room: usize) -> u8
+    // Answers the refusal that everything ahead of the masses (9) decides, 0 if none; `good` says whether the ledger is sound, and
+    // the factors are the record's.
+    pub(crate) fn early_refusal(self, good: bool, factors: Factors, bytes: &[u8], room: usize) -> u8
+        requires { ⌜ factors ≡ factorsOf (now bytes) ⌝ }
         ensures { λ r. ⌜ r ≡ firstOf (ahead 9 (faultsOf good self (now (bytes .entry)) room)) ⌝ }
     {
         if bytes.len() != Ledger::BYTES {
@@ -105,7 +107,7 @@ impl Ledger {
         if (self.n > 0) & !self.is_continued(bytes) {
             return 7;
         }
-        if !Factors::of(bytes).is_in_range() {
+        if !factors.is_in_range() {
             return 8;
         }
         0
@@ -127,7 +129,8 @@ impl Ledger {
         }
     }
 
-    // Decays every type; each place is written out, so that no copy of the ledger is made for one known only at run time.
+    // Decays every type but inert waste, which has no carbon; each place is written out, so that no copy of the ledger is made for
+    // one known only at run time.
     fn decay_all(self, entries: [u32; 8], bytes: &[u8]) -> Period
         requires { ⌜ refusalOf self (now bytes) 48 ≡ 0 ⌝ }
         requires { ⌜ entries ≡ eight (entryAt (kindOf (now bytes)) (climateOf (now bytes))) ⌝ }
@@ -138,7 +141,6 @@ impl Ledger {
         let c = self.decay(entries, bytes, 2);
         let d = self.decay(entries, bytes, 3);
         let e = self.decay(entries, bytes, 4);
-        let f = self.decay(entries, bytes, 5);
         let g = self.decay(entries, bytes, 6);
         let h = self.decay(entries, bytes, 7);
         Period {
@@ -148,7 +150,7 @@ impl Ledger {
                 c.brought,
                 d.brought,
                 e.brought,
-                f.brought,
+                0,
                 g.brought,
                 h.brought,
             ],
@@ -158,7 +160,7 @@ impl Ledger {
                 c.stock,
                 d.stock,
                 e.stock,
-                f.stock,
+                0,
                 g.stock,
                 h.stock,
             ],
@@ -167,15 +169,20 @@ impl Ledger {
                 + c.release
                 + d.release
                 + e.release
-                + f.release
                 + g.release
                 + h.release,
         }
     }
 
     // Enters an accepted record: answers the ledger after it, and writes its output record at the start of the output.
-    pub(crate) fn enter(self, entries: [u32; 8], bytes: &[u8], out: &mut [u8]) -> Ledger
-        requires { ⌜ refusalOf self (now bytes) (length (now out)) ≡ 0 ⌝ }
+    pub(crate) fn enter(
+        self,
+        entries: [u32; 8],
+        factors: Factors,
+        bytes: &[u8],
+        out: &mut [u8],
+    ) -> Ledger
+        requires { ⌜ (refusalOf self (now bytes) (length (now out)) ≡ 0) × (factors ≡ factorsOf (now bytes)) ⌝ }
         requires { ⌜ entries ≡ eight (entryAt (kindOf (now bytes)) (climateOf (now bytes))) ⌝ }
         ensures { λ r. ⌜ r ≡ acceptedOf self (now (bytes .entry)) .ledger ⌝ }
         ensures { λ _. ⌜ now (out .exit) ≡ outputRecord (acceptedOf self (now (bytes .entry))) ++ drop 48 (now (out .entry)) ⌝ }
@@ -186,7 +193,6 @@ impl Ledger {
         let n = self.n + 1;
         let kind = record::kind(bytes);
         let climate = record::climate(bytes);
-        let factors = Factors::of(bytes);
         let says = Output {
             period: n,
             kind,

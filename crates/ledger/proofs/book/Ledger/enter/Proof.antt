@@ -18,15 +18,15 @@ use Rattle.ledger.proofs.book.Ledger.enter.Statement.{statement}
 use Rattle.ledger.proofs.book.Ledger.enter.Tie as tie
 
 enough : (s : tie.Start) → 48 ≤ length (now (s .args .out))
-enough s = has-room (s .args .self) (s .args .bytes .now) (length (now (s .args .out))) (s .pre .0)
+enough s = has-room (s .args .self) (s .args .bytes .now) (length (now (s .args .out))) (s .pre .0 .0)
 
 taken : (s : tie.Start) → Accepted (s .args .self) (s .args .bytes .now)
-taken s = accepted (s .args .self) (s .args .bytes .now) (length (now (s .args .out))) (s .pre .0)
+taken s = accepted (s .args .self) (s .args .bytes .now) (length (now (s .args .out))) (s .pre .0 .0)
 
 decay-all-requires : tie.Need-decay-all-requires
 decay-all-requires c κs =
     let s = c .before .before in
-    (room-alike (s .args .self) (s .args .bytes .now) 48 (length (now (s .args .out))) (omega arith) (enough s) ∙ s .pre .0, s .pre .1)
+    (room-alike (s .args .self) (s .args .bytes .now) 48 (length (now (s .args .out))) (omega arith) (enough s) ∙ s .pre .0 .0, s .pre .1)
 
 -- the totals after the record
 stock-total : (s : tie.Start) → let l = s .args .self in let bytes = s .args .bytes .now in
@@ -48,10 +48,10 @@ brought-total s =
 returns : tie.Need-returns
 unfolding acceptedOf after periodOfAll written outputRecord outputFields
 returns c =
-    let s = c .before .before .before .before .before .before .before .before .before .before .before .before .before .before .before .before .before .before in
-    let all = c .before .before .before .before .before .before .before .before .before .before .before .before .before .before .before .decay-all .ensures in
-    let kind = c .before .before .before .before .before .before .before .before .before .before .before .kind .ensures in
-    let climate = c .before .before .before .before .before .before .before .before .before .before .climate .ensures in (
+    let s = c .before .before .before .before .before .before .before .before .before .before .before .before .before .before .before .before .before in
+    let all = c .before .before .before .before .before .before .before .before .before .before .before .before .before .before .decay-all .ensures in
+    let kind = c .before .before .before .before .before .before .before .before .before .before .kind .ensures in
+    let climate = c .before .before .before .before .before .before .before .before .before .climate .ensures in (
       rw (kind, climate, all),
       (simp (le-leb 48 (length (now (s .args .out))) (enough s)) at (c .before .before .write .ensures))
           ∙ simp (
@@ -60,7 +60,7 @@ returns c =
             c .before .before .before .before .before .before .bound .ensures,
             c .before .before .before .before .before .before .before .margins .ensures,
             c .before .before .before .before .before .before .before .before .figure .ensures,
-            c .before .before .before .before .before .before .before .before .before .of .ensures,
+            s .pre .0 .1,
             kind,
             climate,
             all,
@@ -74,5 +74,5 @@ pub enter-spec : {M : Type 1} → statement M
 enter-spec =
     tie.close
     (tie.spec decay-all-requires (λ c. omega (arith, taken (c .before .before .before .before .before .before) .more)) (λ c κs. search needs) (λ c κs. search needs)
-    (λ c κs. search needs) (λ c κs. search needs) (λ c κs. search needs) (λ c κs. search needs) (λ c κs. search needs)
+    (λ c κs. search needs) (λ c κs. search needs) (λ c κs. search needs) (λ c κs. search needs)
     (λ c κs. search needs) (λ c κs. search needs) (λ c. search needs) returns)
