@@ -1,0 +1,10 @@
+pub mod OneByOne
+pub mod Stock
+pub mod Stocks
+pub mod Release
+pub mod Figure
+pub mod Figures
+pub mod WholeRun
+pub mod OneRun
+pub mod Worked
+pub mod Proved

@@ -18,6 +18,7 @@ use Rattle.ledger.specs.Stock.{broughtAt, stockAt, entryAt}
 use Rattle.ledger.specs.Take.{takeOf, outputFields}
 use Rattle.ledger.specs.History.{Offer, Turn, recordsOf, runOf, outOf, outcomeOf}
 use Rattle.ledger.specs.declared.book.Ledger.{Ledger}
+use Rattle.ledger.specs.declared.answer.Outcome.{Outcome}
 use Rattle.promises.specs.Offering.{Offering, offering, recordsIn}
 use Rattle.promises.specs.Exact.{inert, exactStockAt, exactFigure}
 use Rattle.promises.specs.WholeRun.{WholeRun}
@@ -90,6 +91,9 @@ pub record Promises : Type 0 where
   -- 'the count is the number of leading records that the step, taken one after another, accepts': so demand 3 holds of a whole run.
   pub whole-run : (l : Ledger) (file out : List ℕ)
       → WholeRun l file out (outcomeOf (runOf l (recordsOf file) (length out))) (outOf (runOf l (recordsOf file) (length out)) out)
+  -- No other answer, and no other output, meets that.
+  pub one-run : (l : Ledger) (file out : List ℕ) (answer : Outcome) (left : List ℕ) → WholeRun l file out answer left
+      → (answer ≡ outcomeOf (runOf l (recordsOf file) (length out))) × (left ≡ outOf (runOf l (recordsOf file) (length out)) out)
   -- 'The output record [..]: bytes 0-1 period, 2 kind, 3 climate', those of the accepted record.
   pub output-head : (l : Ledger) (bytes : List ℕ) (room : ℕ) → takeOf l bytes room .refusal ≡ 0
       → OwnHead bytes (outputFields (takeOf l bytes room))

@@ -1,5 +1,5 @@
 -- Document 01, 'What the contracts have to decide': 'the count is the number of leading records that the step, taken one after
--- another, accepts'. It is said of any ledger l, file and output, and of any answer to them and bytes left in the output.
+-- another, accepts'. It is said of any ledger l, records and room, and of any answer.
 use mathlib.Core.Path.{_≡_}
 use mathlib.Core.List.{List, [], _++_}
 use Prim.Native.Nat.{ℕ, _-_, _*_, _<_}
@@ -12,32 +12,33 @@ use Rattle.ledger.specs.declared.answer.Answer.{Answer}
 use Rattle.ledger.specs.declared.answer.Outcome.{Outcome}
 use Rattle.promises.specs.Offering.{Offering, offeringTo, recordsIn}
 
-module _ (l : Ledger) (file out : List ℕ) (answer : Outcome) (left : List ℕ) where
-  -- The first records of the file, as many as are answered to be accepted, and what comes of offering them in turn.
+module _ (l : Ledger) (records : List (List ℕ)) (room : ℕ) (answer : Outcome) where
+  -- The leading records, as many as the answer counts, and what comes of offering them one after another.
   abbrev pub leadingRecords : List (List ℕ)
-  leadingRecords = take (answer .accepted) (recordsOf file)
+  leadingRecords = take (answer .accepted) records
 
   abbrev pub leadingOffered : Offering
-  leadingOffered = offeringTo l (inTurn leadingRecords (length out))
+  leadingOffered = offeringTo l (inTurn leadingRecords room)
 
-  -- There are so many, the step accepts each, the ledger is the one after them, and their output records stand one after another.
+  -- There are so many, the step accepts every one, and the ledger is the one after them.
   pub record LeadingAccepted : Type 0 where
     pub so-many : length leadingRecords ≡ answer .accepted
-    pub each-accepted : recordsIn leadingOffered ≡ leadingRecords
+    pub every-one : recordsIn leadingOffered ≡ leadingRecords
     pub ledger-after : answer .ledger ≡ leadingOffered .ledger
-    pub output-after : left ≡ outputs (leadingOffered .accepted) ++ drop (recordBytes * answer .accepted) out
 
-  -- What the step answers to the next record, on that ledger and with the room that is left.
+module _ (records : List (List ℕ)) (room : ℕ) (answer : Outcome) where
+  -- What the step answers to the next record, on the ledger that is left and with the room that is left.
   abbrev pub nextAnswer : Answer
-  nextAnswer =
-      takeOf (answer .ledger) (getD (recordsOf file) (answer .accepted) []) (length out - recordBytes * answer .accepted)
+  nextAnswer = takeOf (answer .ledger) (getD records (answer .accepted) []) (room - recordBytes * answer .accepted)
 
-  -- No record is left and the refusal is 0; or there is a next one, which the step refuses with the answered number.
+  -- No record is left and the refusal is 0; or there is a next one, and the step refuses it with the answered number.
   pub data LeadingEnds : Type 0 where
-    none-left : answer .accepted ≡ length (recordsOf file) → answer .refusal ≡ 0 → LeadingEnds
-    next-refused : answer .accepted < length (recordsOf file) → answer .refusal ≡ nextAnswer .refusal → 0 < answer .refusal
-        → LeadingEnds
+    none-left : answer .accepted ≡ length records → answer .refusal ≡ 0 → LeadingEnds
+    next-refused : answer .accepted < length records → answer .refusal ≡ nextAnswer .refusal → 0 < answer .refusal → LeadingEnds
 
-  pub record WholeRun : Type 0 where
-    pub begins : LeadingAccepted
-    pub ends : LeadingEnds
+-- So of a file and an output, and what is left in the output: output record i starts at 48 × (i − 1), and the rest keeps its value.
+pub record WholeRun (l : Ledger) (file out : List ℕ) (answer : Outcome) (left : List ℕ) : Type 0 where
+  pub begins : LeadingAccepted l (recordsOf file) (length out) answer
+  pub ends : LeadingEnds (recordsOf file) (length out) answer
+  pub output-after : left ≡ outputs (leadingOffered l (recordsOf file) (length out) answer .accepted)
+      ++ drop (recordBytes * answer .accepted) out

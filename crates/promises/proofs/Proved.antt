@@ -1,0 +1,111 @@
+-- The promises, proved.
+use mathlib.Core.Path.{_≡_, refl, sym, _∙_}
+use mathlib.Core.Bool.{Bool, true, false, _&&_, _||_}
+use mathlib.Core.List.{List}
+use Prim.Native.Nat.{ℕ, _+_, _-_, _≤_, _<_}
+use native.Mathlib.Omega.{arith}
+use borrow.Author.Tests.{eqb-true, leb-true}
+use lib.Dec.{leb}
+use Rattle.numbers.specs.Eight.{everyOf}
+use Rattle.numbers.proofs.Eight.{both-true, every-at}
+use Rattle.numbers.specs.Fraction.{Fraction}
+use Rattle.decay.proofs.Laws.{stands-for-sums}
+use Rattle.waste.specs.Waste.{rateOf, climates, isClimate}
+use Rattle.record.specs.Fields.{periodOf}
+use Rattle.ledger.specs.Stock.{broughtAt, stockAt, entryAt, after}
+use Rattle.ledger.specs.Take.{takeOf, acceptedOf, outputFields}
+use Rattle.ledger.specs.declared.book.Ledger.{Ledger}
+use Rattle.ledger.proofs.Accepted as step
+use Rattle.ledger.proofs.Take.{taken, take-refusal}
+use Rattle.promises.specs.Offering.{Offering, offering, recordsIn}
+use Rattle.promises.specs.Exact.{inert, exactStockAt}
+use Rattle.promises.specs.Promises.{NoCarbon, Chosen, CloseTo, sums, DemandThree, OwnHead, Promises}
+use Rattle.promises.proofs.OneByOne.{OneByOne, one-by-one, n-counts, codes, conserved}
+use Rattle.promises.proofs.Stocks.{close}
+use Rattle.promises.proofs.Release.{nothing-brought}
+use Rattle.promises.proofs.Figures.{published}
+use Rattle.promises.proofs.WholeRun.{whole-run}
+use Rattle.promises.proofs.OneRun.{one-run}
+use Rattle.promises.proofs.Worked.{worked}
+
+-- Every rate of a type that decays is in the table, by one test over the types and climates.
+rate? : (t climate : ℕ) → Bool
+rate? t climate = leb 1 (rateOf (t + 1) climate) && leb (rateOf (t + 1) climate) 400
+
+listed? : (t : ℕ) → Bool
+listed? t = everyOf (λ c. inert t || rate? t (c + 1)) climates
+
+rate-listed : (t climate : ℕ) → t < 8 → inert t ≡ false → isClimate climate ≡ true
+    → (1 ≤ rateOf (t + 1) climate) × (rateOf (t + 1) climate ≤ 400)
+unfolding listed? rate? rateOf
+rate-listed t climate place i c =
+    let ends = both-true (leb 1 climate) (leb climate climates) c in
+    let low = leb-true 1 climate (ends .0) in
+    let high = leb-true climate climates (ends .1) in
+    let back : climate - 1 + 1 ≡ climate = omega arith in
+    let each = every-at (λ c. inert t || rate? t (c + 1)) climates (climate - 1) (omega arith) (every-at listed? 8 t place refl) in
+    let rate : rate? t climate ≡ true = simp (i, back) at each in
+    let both = both-true (leb 1 (rateOf (t + 1) climate)) (leb (rateOf (t + 1) climate) 400) rate in
+    (leb-true 1 (rateOf (t + 1) climate) (both .0), leb-true (rateOf (t + 1) climate) 400 (both .1))
+
+module _ (o : Offering) (r : OneByOne o) where
+  sums-chosen : (m : ℕ) → 15 ≤ m → 1 ≤ o .ledger .n → Chosen (o .ledger) (sums (o .ledger) m)
+  unfolding entryAt
+  sums-chosen m long some t place i =
+      let code = codes o r (rw (n-counts o r) at some) in
+      let rate = rate-listed t (o .ledger .climate) place i (code .1) in
+      stands-for-sums (o .ledger .kind) (rateOf (t + 1) (o .ledger .climate)) m (code .0) (rate .0) (rate .1) long
+
+  inert-waste : (t : ℕ) → inert t ≡ true → NoCarbon o t
+  inert-waste t i =
+      let place : t < 8 = omega (arith, eqb-true) in
+      let c = conserved t place o r in
+      let none = nothing-brought t o i c in
+      record {
+        T-none = none;
+        R-none = omega (arith, c .balance);
+        G-none = omega (arith, c .balance);
+      }
+
+  stock-close : (d : ℕ → Fraction) → Chosen (o .ledger) d → 1 ≤ o .ledger .n → (t : ℕ) → t < 8
+      → CloseTo (exactStockAt d (recordsIn o) (o .ledger .n) t) (o .ledger .n) (broughtAt (o .ledger) t) (stockAt (o .ledger) t)
+  unfolding exactStockAt
+  stock-close d chosen some t place = by-test (inert t) refl
+    where
+      by-test : (b : Bool) → inert t ≡ b
+          → CloseTo (exactStockAt d (recordsIn o) (o .ledger .n) t) (o .ledger .n) (broughtAt (o .ledger) t) (stockAt (o .ledger) t)
+      by-test true i =
+          let none = inert-waste t i in
+          rw (i, none .T-none, none .R-none) (record { never-above = omega arith; short-by-less = omega arith })
+      by-test false i = rw (i, n-counts o r) (close t (d t) place o r (rw (n-counts o r) at some) (chosen t place i))
+
+  demand-three : DemandThree o
+  demand-three =
+      record {
+        n-accepted = n-counts o r;
+        conserved = λ t place. conserved t place o r;
+        inert-waste = inert-waste;
+        stock-close = stock-close;
+        figures-within = λ d chosen. published (o .ledger) d chosen o r (λ _. (refl, refl));
+        sums-chosen = λ m long. sums-chosen m (omega arith);
+      }
+
+-- An accepted record has the period n + 1, and its kind and climate become the ledger's.
+output-head : (l : Ledger) (bytes : List ℕ) (room : ℕ) → takeOf l bytes room .refusal ≡ 0 → OwnHead bytes (outputFields (takeOf l bytes room))
+unfolding outputFields acceptedOf after
+output-head l bytes room e =
+    let zero = sym (take-refusal l bytes room) ∙ e in
+    rw (taken l bytes room zero)
+    (record { own-period = sym (step.accepted l bytes room zero .period); own-kind = refl; own-climate = refl })
+
+pub promises : Promises
+promises =
+    record {
+      demand-three = λ offers. demand-three (offering offers) (one-by-one offers);
+      any-fraction = λ D p q above.
+          (λ s. (omega (arith, s .from), omega (arith, s .upTo)), λ h. record { from = omega (arith, h .0); upTo = omega (arith, h .1) });
+      whole-run = whole-run;
+      one-run = one-run;
+      output-head = output-head;
+      worked-figures = worked;
+    }
