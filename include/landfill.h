@@ -3,36 +3,43 @@
  * A site's waste goes in as records of 48 bytes, one a year or one a month. Each accepted record gives the carbon that
  * the site released in that period, the figure in grams CO2e that goes into the methane estimate, and a bound on how far
  * the figure is from the exact formula of TOOL04. All is whole-number arithmetic: every machine gives the same digits.
+ * docs/METHOD.md has the method, a site worked by hand, and what to do about each refusal; tests/c/example.c is a first
+ * program.
  *
- * What holds for every entry:
+ * What every entry gives:
  * - Every content of the buffers gets an answer. What cannot be taken is refused by number, in a fixed order.
- * - A buffer is a pointer, then its length in bytes. No pointer is NULL, not even where the length is 0.
- * - No two buffers of a call overlap, and none overlaps a number that the call writes.
- * - Buffers need no alignment. Numbers in them are little-endian. Numbers behind pointers are aligned as C aligns them.
  * - Nothing is kept between calls, nothing is allocated, and different threads may call at once on buffers of their own.
  *
- * One record, 48 bytes:
- *    0-1   period number: 1 for the first record, then the next in turn
- *    2     kind: 1 yearly, 2 monthly                    3      climate: 1 boreal or temperate dry, 2 the same wet,
- *                                                              3 tropical dry, 4 tropical wet
- *    4     correction factor, percent, 1 to 100         5      oxidation OX, percent, 0 to 100
- *    6     methane share F, percent, 0 to 100           7      DOCf, percent, 0 to 100
- *    8     site class: 1 anaerobic managed, 2 semi-aerobic managed, 3 unmanaged deep, 4 unmanaged shallow or stockpile
- *    9     warming potential GWP, 1 to 100              10-11  captured f, hundredths of a percent, 0 to 10000
- *    12-15 zero
- *    16-47 eight masses in kg, 4 bytes each, 0 to 1,000,000,000; these numbers never follow a language or a sort:
- *          1 wood and wood products, 2 pulp, paper, cardboard, 3 food, beverages, tobacco, 4 textiles,
- *          5 garden, yard, park, 6 glass, plastic, metal, inert, 7 domestic sludge, 8 pulp and paper industry sludge
+ * What the caller sees to. None of it is tested, and without it nothing is promised:
+ * - A buffer is a pointer, then its length in bytes. So many bytes of one object stand there; they may be read, and also
+ *   written where the pointer is not to const.
+ * - No pointer is NULL, not even where the length is 0.
+ * - No two buffers of a call overlap, and no number that the call writes lies in a buffer or in another such number.
+ * - Buffers need no alignment. Numbers behind pointers are aligned as C aligns them.
+ * - While a call runs, no other thread writes what it was given, or reads what it may write.
+ * - For landfill_cell the processor's floating-point modes are those that a program starts with. Linking with gcc's
+ *   -ffast-math sets others: a cell of 5e-324 is then taken as 0 and not refused with 11.
+ * The helpers at the end ask the same. They take no length: what they read or write has a fixed size.
  *
- * One output record, 48 bytes:
- *    0-1 period   2 kind   3 climate   4-7 zero
- *    8-15 x0 in mg   16-23 figure in grams CO2e   24-31 bound in grams CO2e   32-39 total R in mg   40-47 total T in mg
- * x0 is the carbon released in the period, R the carbon left, T the carbon brought in since the first record.
+ * Numbers in buffers are little-endian. The constants below say where each stands.
  *
- * A ledger image, 136 bytes, is a site's ledger as it can be kept in a file between calls:
- *    0-1 n, the number of accepted records   2 kind   3 climate   4-7 zero
- *    8-71 T of types 1 to 8 in mg, 8 bytes each   72-135 R of types 1 to 8 in mg, 8 bytes each
- * An image is malformed when it is not 136 bytes long or bytes 4-7 are not all zero; it then counts as an unsound ledger.
+ * By year or by month. A ledger is one or the other from its first record to its last, and stays in one climate
+ * (refusal 7). A site whose history is known by year and that is monitored by month has two ledgers:
+ * - a yearly one for the waste of the years before monitoring. It goes on through the monitored years with records that
+ *   bring nothing, since the old waste goes on decaying;
+ * - a monthly one for the waste of the monitored months. Its month 1 is the first month of a year of the yearly ledger.
+ * Every delivery stands in one of them only. A monitored year then has the yearly ledger's figure for it plus the figures
+ * of its twelve months, and its bound is the thirteen bounds added. That is equation (1) of TOOL04 over the old waste plus
+ * equation (2) over the new. It gives no figure for a single month, since the old waste has none. TOOL04 has no equation
+ * for the two together, so the report has to say how it was done. docs/METHOD.md has the reasons and another way.
+ *
+ * Tonnes. A mass is a whole number of kilograms. Tonnes in a float times 1000 often are not: 2.01 * 1000.0 is
+ * 2009.9999999999998. Of the 100,000 values 0.01, 0.02, .. 1000.00 t, 1175 come out so (1.2 %), and landfill_cell refuses
+ * them with 11. Round first:
+ *     refusal = landfill_cell(1, landfill_kg(tonnes), &mass);
+ * where landfill_kg is floor(tonnes * 1000.0 + 0.5) for all that can be a mass. Tonnes with at most three decimals then
+ * give exactly the kilograms that were typed. With more decimals the nearest whole kilogram is taken, which is up to half
+ * a kilogram off; a package that may not round looks for that first.
  */
 #ifndef LANDFILL_H
 #define LANDFILL_H
@@ -54,12 +61,92 @@ enum {
     LANDFILL_MASS_LIMIT = 1000000000 /* the largest mass of one type in one record, in kg */
 };
 
+/* Kinds. */
+enum { LANDFILL_YEARLY = 1, LANDFILL_MONTHLY = 2 };
+
+/* Climates; temperate stands for boreal or temperate. */
+enum {
+    LANDFILL_TEMPERATE_DRY = 1,
+    LANDFILL_TEMPERATE_WET = 2,
+    LANDFILL_TROPICAL_DRY = 3,
+    LANDFILL_TROPICAL_WET = 4
+};
+
+/* Site classes, which give the methane correction factor. */
+enum {
+    LANDFILL_ANAEROBIC_MANAGED = 1,    /* 100 % */
+    LANDFILL_SEMI_AEROBIC_MANAGED = 2, /* 50 % */
+    LANDFILL_UNMANAGED_DEEP = 3,       /* 80 % */
+    LANDFILL_UNMANAGED_SHALLOW = 4     /* 40 %, and stockpiles */
+};
+
+/* Waste types. These numbers never follow a language or a sort. */
+enum {
+    LANDFILL_WOOD = 1,            /* wood and wood products */
+    LANDFILL_PAPER = 2,           /* pulp, paper, cardboard */
+    LANDFILL_FOOD = 3,            /* food, beverages, tobacco */
+    LANDFILL_TEXTILES = 4,        /* textiles */
+    LANDFILL_GARDEN = 5,          /* garden, yard, park */
+    LANDFILL_INERT = 6,           /* glass, plastic, metal, inert */
+    LANDFILL_DOMESTIC_SLUDGE = 7, /* domestic sludge */
+    LANDFILL_PAPER_SLUDGE = 8,    /* pulp and paper industry sludge */
+    LANDFILL_TYPES = 8            /* how many there are */
+};
+
+/* One record, 48 bytes: where each field starts. */
+enum {
+    LANDFILL_RECORD_AT_PERIOD = 0,    /* 2 bytes: 1 for the first record, then the next in turn */
+    LANDFILL_RECORD_AT_KIND = 2,      /* 1 byte */
+    LANDFILL_RECORD_AT_CLIMATE = 3,   /* 1 byte */
+    LANDFILL_RECORD_AT_FACTOR = 4,    /* 1 byte: correction factor, percent, 1 to 100 */
+    LANDFILL_RECORD_AT_OX = 5,        /* 1 byte: oxidation OX, percent, 0 to 100 */
+    LANDFILL_RECORD_AT_F = 6,         /* 1 byte: methane share F, percent, 0 to 100 */
+    LANDFILL_RECORD_AT_DOCF = 7,      /* 1 byte: DOCf, percent, 0 to 100 */
+    LANDFILL_RECORD_AT_CLASS = 8,     /* 1 byte: site class */
+    LANDFILL_RECORD_AT_GWP = 9,       /* 1 byte: warming potential GWP, 1 to 100 */
+    LANDFILL_RECORD_AT_CAPTURED = 10, /* 2 bytes: captured f, hundredths of a percent, 0 to 10000 */
+    LANDFILL_RECORD_AT_ZERO = 12,     /* 4 bytes: zero */
+    LANDFILL_RECORD_AT_MASSES = 16    /* 32 bytes: the masses of types 1 to 8 in kg, 4 bytes each, 0 to 1,000,000,000 */
+};
+
+/* One output record, 48 bytes: where each field starts. */
+enum {
+    LANDFILL_OUT_AT_PERIOD = 0,  /* 2 bytes */
+    LANDFILL_OUT_AT_KIND = 2,    /* 1 byte */
+    LANDFILL_OUT_AT_CLIMATE = 3, /* 1 byte */
+    LANDFILL_OUT_AT_ZERO = 4,    /* 4 bytes: zero */
+    LANDFILL_OUT_AT_X0 = 8,      /* 8 bytes: x0, the carbon released in the period, in mg */
+    LANDFILL_OUT_AT_FIGURE = 16, /* 8 bytes: figure, in grams CO2e */
+    LANDFILL_OUT_AT_BOUND = 24,  /* 8 bytes: bound, in grams CO2e */
+    LANDFILL_OUT_AT_STOCK = 32,  /* 8 bytes: total R, the carbon left, in mg */
+    LANDFILL_OUT_AT_BROUGHT = 40 /* 8 bytes: total T, the carbon brought in since the first record, in mg */
+};
+
+/* The answer of one step, 88 bytes: where each field starts. */
+enum {
+    LANDFILL_ANSWER_AT_RELEASES = 0, /* 64 bytes: the carbon that types 1 to 8 released, in mg, 8 bytes each */
+    LANDFILL_ANSWER_AT_X0 = 64,      /* 8 bytes: x0, these added, in mg */
+    LANDFILL_ANSWER_AT_FIGURE = 72,  /* 8 bytes: figure, in grams CO2e */
+    LANDFILL_ANSWER_AT_BOUND = 80    /* 8 bytes: bound, in grams CO2e */
+};
+
+/* A ledger image, 136 bytes, is a site's ledger as it can be kept in a file between calls:
+ *    0-1 n, the number of accepted records   2 kind   3 climate   4-7 zero
+ *    8-71 T of types 1 to 8 in mg, 8 bytes each   72-135 R of types 1 to 8 in mg, 8 bytes each
+ * It is refused with 3 exactly where one of these holds:
+ * - it is not 136 bytes, or bytes 4-7 are not all zero;
+ * - n is over 1200;
+ * - n is 0 and any other byte is not;
+ * - n is above 0, and the kind is not 1 or 2, the climate not 1 to 4, some T over n * 10^9 * DOC * 100, or some R over its T
+ *   (DOC in hundredths of a percent: 4300, 4000, 1500, 2400, 2000, 0, 500, 900 for types 1 to 8).
+ * Nothing else is tested. An image that was changed within these limits is taken as it stands, so guard the file. */
+
 /* Refusals. A record is tested in the order of 1 to 9, and the first that holds is the answer. */
 enum {
     LANDFILL_ACCEPTED = 0,        /* not refused */
     LANDFILL_NOT_48_BYTES = 1,    /* the record is not 48 bytes */
     LANDFILL_NO_ROOM = 2,         /* an output is too short */
-    LANDFILL_UNSOUND = 3,         /* the ledger is malformed or holds what no records give */
+    LANDFILL_UNSOUND = 3,         /* the ledger image fails a test of the list above */
     LANDFILL_FULL = 4,            /* the ledger has 1200 records */
     LANDFILL_NOT_A_CODE = 5,      /* kind, climate or site class is not a code, or bytes 12-15 are not all zero */
     LANDFILL_OUT_OF_TURN = 6,     /* the period is not n + 1 */
@@ -77,8 +164,7 @@ enum {
 uint8_t landfill_fresh(uint8_t *ledger, size_t ledger_len);
 
 /* Takes one record into the ledger and answers the refusal, 0 if none.
- * out takes the output record; answer takes 88 bytes, 8 each: the eight releases of types 1 to 8 in mg, x0 in mg, figure
- * and bound in grams CO2e. Under 48 bytes of out or under 88 of answer is refusal 2.
+ * out takes the output record, answer the 88 bytes of the answer. Under 48 bytes of out or under 88 of answer is refusal 2.
  * Accepted: the image, the first 48 bytes of out and the first 88 of answer are written; the rest of out and answer stays.
  * Refused: image and out stay as they are; the first 88 bytes of answer become zero, or it stays where it has fewer. */
 uint8_t landfill_take(uint8_t *ledger, size_t ledger_len, const uint8_t *record, size_t record_len, uint8_t *out,
@@ -92,7 +178,7 @@ uint8_t landfill_run(uint8_t *ledger, size_t ledger_len, const uint8_t *records,
                      size_t out_len, uint64_t *accepted);
 
 /* Answers 0, with *stock the carbon left (R) and *brought the carbon brought in (T) over all types, in mg.
- * Answers 3 with both 0 when the ledger is malformed or unsound. */
+ * Answers 3 with both 0 when the ledger is unsound. */
 uint8_t landfill_totals(const uint8_t *ledger, size_t ledger_len, uint64_t *stock, uint64_t *brought);
 
 /* Answers the decay table's entry: what is left of 1,000,000,000 parts after one period, rounded down.
@@ -115,6 +201,115 @@ uint8_t landfill_point(uint64_t figure, uint64_t bound, double *at, double *low,
  * the line "refused K at record P", and nothing after it. Every line ends with a byte 10.
  * text needs 90 bytes for every 48 bytes begun of records. With less, answers 2, writes nothing and sets *length to 0. */
 uint8_t landfill_listing(const uint8_t *records, size_t records_len, uint8_t *text, size_t text_len, uint64_t *length);
+
+/* Helpers, compiled into the caller. They work on bytes alone, so that byte order and alignment do not matter. */
+
+/* Writes a number into so many bytes, little-endian. A number too large for them becomes the largest that they hold. */
+static inline void landfill_put(uint8_t *bytes, size_t count, uint64_t number)
+{
+    size_t i;
+    for (i = 0; i < count; i++, number >>= 8) bytes[i] = (uint8_t)(number & 255);
+    if (number != 0)
+        for (i = 0; i < count; i++) bytes[i] = 255;
+}
+
+/* Reads so many bytes, at most 8, as a little-endian number. */
+static inline uint64_t landfill_get(const uint8_t *bytes, size_t count)
+{
+    uint64_t number = 0;
+    while (count-- > 0) number = number << 8 | bytes[count];
+    return number;
+}
+
+/* The fields of a record, wider than its bytes. Masses go by type number: mass[LANDFILL_FOOD]; mass[0] is no type's. */
+struct landfill_record {
+    uint32_t period, kind, climate;
+    uint32_t factor, OX, F, DOCf; /* percent */
+    uint32_t site_class, GWP;
+    uint32_t captured;                 /* f, hundredths of a percent */
+    uint64_t mass[LANDFILL_TYPES + 1]; /* kg */
+};
+
+/* Writes the 48 bytes of a record. A field that is too large for its bytes is written as the largest number that they
+ * hold, which the ledger refuses, so that nothing is taken for a smaller one. With a mass at place 0 the kind is written as
+ * 0, which is refused with 5. */
+static inline void landfill_put_record(uint8_t *record, const struct landfill_record *fields)
+{
+    size_t type;
+    landfill_put(record + LANDFILL_RECORD_AT_PERIOD, 2, fields->period);
+    landfill_put(record + LANDFILL_RECORD_AT_KIND, 1, fields->mass[0] == 0 ? fields->kind : 0);
+    landfill_put(record + LANDFILL_RECORD_AT_CLIMATE, 1, fields->climate);
+    landfill_put(record + LANDFILL_RECORD_AT_FACTOR, 1, fields->factor);
+    landfill_put(record + LANDFILL_RECORD_AT_OX, 1, fields->OX);
+    landfill_put(record + LANDFILL_RECORD_AT_F, 1, fields->F);
+    landfill_put(record + LANDFILL_RECORD_AT_DOCF, 1, fields->DOCf);
+    landfill_put(record + LANDFILL_RECORD_AT_CLASS, 1, fields->site_class);
+    landfill_put(record + LANDFILL_RECORD_AT_GWP, 1, fields->GWP);
+    landfill_put(record + LANDFILL_RECORD_AT_CAPTURED, 2, fields->captured);
+    landfill_put(record + LANDFILL_RECORD_AT_ZERO, 4, 0);
+    for (type = 1; type <= LANDFILL_TYPES; type++)
+        landfill_put(record + LANDFILL_RECORD_AT_MASSES + 4 * (type - 1), 4, fields->mass[type]);
+}
+
+/* The fields of an output record. */
+struct landfill_output {
+    uint32_t period, kind, climate;
+    uint64_t x0;             /* mg */
+    uint64_t figure, bound;  /* grams CO2e */
+    uint64_t stock, brought; /* total R and total T, mg */
+};
+
+/* Reads the 48 bytes of an output record. */
+static inline struct landfill_output landfill_get_output(const uint8_t *out)
+{
+    struct landfill_output fields;
+    fields.period = (uint32_t)landfill_get(out + LANDFILL_OUT_AT_PERIOD, 2);
+    fields.kind = out[LANDFILL_OUT_AT_KIND];
+    fields.climate = out[LANDFILL_OUT_AT_CLIMATE];
+    fields.x0 = landfill_get(out + LANDFILL_OUT_AT_X0, 8);
+    fields.figure = landfill_get(out + LANDFILL_OUT_AT_FIGURE, 8);
+    fields.bound = landfill_get(out + LANDFILL_OUT_AT_BOUND, 8);
+    fields.stock = landfill_get(out + LANDFILL_OUT_AT_STOCK, 8);
+    fields.brought = landfill_get(out + LANDFILL_OUT_AT_BROUGHT, 8);
+    return fields;
+}
+
+/* The carbon that a type, 1 to 8, released, in mg, from the 88 bytes of an answer; 0 for a number that is no type. */
+static inline uint64_t landfill_get_release(const uint8_t *answer, unsigned type)
+{
+    if (type < 1 || type > LANDFILL_TYPES) return 0;
+    return landfill_get(answer + LANDFILL_ANSWER_AT_RELEASES + 8 * (type - 1), 8);
+}
+
+/* Tonnes as a whole number of kilograms, for landfill_cell: the nearest, half a kilogram going up. What can be no mass
+ * (below 0, 2,000,000 t or more, not a number) comes back times 1000 as it is, for landfill_cell to refuse. */
+static inline double landfill_kg(double tonnes)
+{
+    double kg = tonnes * 1000.0;
+    return kg >= 0.0 && kg < 2000000000.0 ? (double)(uint32_t)(kg + 0.5) : kg;
+}
+
+/* A sentence for a refusal's number, to show to a person. */
+static inline const char *landfill_refusal_text(unsigned refusal)
+{
+    static const char *const texts[] = {
+        "Accepted.",
+        "The record is not 48 bytes long.",
+        "There is too little room for the output.",
+        "The ledger is damaged, or is no ledger.",
+        "The ledger is full: it has 1200 records.",
+        "The kind, the climate or the site class is not a code, or bytes 12 to 15 are not zero.",
+        "The period is not the next in turn.",
+        "The kind or the climate is not that of the records before.",
+        "The correction factor, OX, F, DOCf, GWP or the captured share is outside its range.",
+        "A mass is over 1,000,000,000 kg.",
+        "The cell is empty.",
+        "The cell is not a whole number of kilograms.",
+        "The cell is below 0 or above 1,000,000,000 kg.",
+        "Figure and bound are too large to be drawn exactly."
+    };
+    return refusal < sizeof texts / sizeof texts[0] ? texts[refusal] : "No refusal has this number.";
+}
 
 #ifdef __cplusplus
 }

@@ -2,20 +2,27 @@
 """Writes cases for the program `cases` (docs/CASES.md), and the lines that the reference gives for them.
 
   make_cases.py [--group base|door|all] [--seed N] [--out DIR]
+  make_cases.py --store
+  make_cases.py --check
 
 DIR gets cases.bin and cases.txt, and a pair stop-*.bin, stop-*.txt for each way in which input cannot be read.
 Every run with the same seed writes the same bytes; the stored cases are those of seed 1.
+--store writes the stored files anew that the reference decides, and says what changed: the stored cases, their
+lines, and what the listing prints for its sample. --check only compares; its status is 1 where one differs.
 """
 import argparse
 import os
 import random
+import sys
+from itertools import zip_longest
 
 import cases
 from base_cases import base
 from cases import case
 from door_cases import door
-from reference import little
+from reference import listing, little
 
+ROOT = os.path.join(os.path.dirname(os.path.abspath(__file__)), "..")
 GROUPS = {"base": [base], "door": [door], "all": [base, door]}
 FIRST = case("d", b"\1\1\0")
 STOPS = {
@@ -27,11 +34,60 @@ STOPS = {
 }
 
 
-def write(folder, name, stream):
-    with open(os.path.join(folder, name + ".bin"), "wb") as file:
-        file.write(stream)
-    with open(os.path.join(folder, name + ".txt"), "w", encoding="ascii", newline="\n") as file:
-        file.write(cases.printed(stream))
+def stream_of(group, seed):
+    """The bytes of a group's cases."""
+    return b"".join(each for cases_of in GROUPS[group] for each in cases_of(random.Random(seed)))
+
+
+def read(path):
+    with open(path, "rb") as file:
+        return file.read()
+
+
+def write(path, data):
+    with open(path, "wb") as file:
+        file.write(data)
+
+
+def write_pair(folder, name, stream):
+    write(os.path.join(folder, name + ".bin"), stream)
+    write(os.path.join(folder, name + ".txt"), cases.printed(stream).encode())
+
+
+def stale():
+    """The stored files that do not hold what the reference gives: path, bytes that stand there, bytes that should."""
+    stream = stream_of("all", 1)
+    sample = read(os.path.join(ROOT, "crates/listing/stdin"))
+    for name, wanted in [
+        ("crates/cases/stdin", stream),
+        ("crates/cases/stdout", cases.printed(stream).encode()),
+        ("crates/listing/stdout", listing(sample).encode()),
+    ]:
+        found = read(os.path.join(ROOT, name))
+        if found != wanted:
+            yield name, found, wanted
+
+
+def store():
+    """Writes the stored files anew, and says what changed."""
+    changed = list(stale())
+    for name, found, wanted in changed:
+        write(os.path.join(ROOT, name), wanted)
+        before, after = found.splitlines(), wanted.splitlines()
+        lines = sum(old != new for old, new in zip_longest(before, after))
+        print(f"{name}: changed" + (f" in {lines} of {len(after)} lines" if name.endswith("stdout") else ""))
+    if not changed:
+        print("nothing changed")
+    return 0
+
+
+def check():
+    """Says in one line which stored files differ, and how they are made."""
+    changed = [name for name, _, _ in stale()]
+    if changed:
+        names = ", ".join(changed)
+        print(f"not what the reference gives: {names}; python3 tests/make_cases.py --store makes them anew")
+    return 1 if changed else 0
 
 
 def main():
@@ -39,13 +95,19 @@ def main():
     options.add_argument("--group", choices=GROUPS, default="all")
     options.add_argument("--seed", type=int, default=1, metavar="N")
     options.add_argument("--out", default=".", metavar="DIR")
+    options.add_argument("--store", action="store_true", help="write the stored files anew, and say what changed")
+    options.add_argument("--check", action="store_true", help="say which stored files differ")
     options = options.parse_args()
+    if options.store:
+        return store()
+    if options.check:
+        return check()
     os.makedirs(options.out, exist_ok=True)
-    groups = GROUPS[options.group]
-    write(options.out, "cases", b"".join(each for group in groups for each in group(random.Random(options.seed))))
+    write_pair(options.out, "cases", stream_of(options.group, options.seed))
     for name, stream in STOPS.items():
-        write(options.out, f"stop-{name}", stream)
+        write_pair(options.out, f"stop-{name}", stream)
+    return 0
 
 
 if __name__ == "__main__":
-    main()
+    sys.exit(main())

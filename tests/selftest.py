@@ -1,27 +1,106 @@
 #!/usr/bin/env python3
-"""Checks the reference against all that document 01 prints, and demand 3 on random runs, in exact fractions.
+"""Holds the reference to all that document 01 prints, to the sources' own tables, and to demand 3 on random runs.
 
 Prints ok and exits 0, or stops at the first check that fails.
 """
 import os
 import random
 import struct
+from decimal import Decimal
 from fractions import Fraction
-from math import floor
+from math import factorial
 
 import cases
 import decay_tables
 import reference
-from histories import KINDS_AND_CLIMATES, PLAIN, damaged, only, random_record
-from reference import BYTES, FRESH, MCF, decay, deposits, rates, read_record, step, write_record
+import retold
+from histories import KINDS_AND_CLIMATES, PLAIN, damaged, only, random_record, replaced
+from reference import FRESH, Ledger, Record, decay, deposits, rates, read_record, step, write_record
 
 HERE = os.path.dirname(os.path.abspath(__file__))
-ROOM = bytes(BYTES)
+ROOM = bytes(48)
+NOTHING = (0, 0, 0, 0, 0, 0, 0, 0)
 
 
 def check(name, found, wanted):
     if found != wanted:
         raise SystemExit(f"{name}: {found} where {wanted} should stand")
+
+
+def offered(ledger=FRESH, **changes):
+    """The answer to a plain record with some fields changed."""
+    return step(ledger, write_record(PLAIN._replace(**changes)), ROOM)
+
+
+def constants():
+    """The constants of the reference are those of the sources' tables, in document 01's units."""
+    check("DOC", reference.DOC, tuple(int(retold.DOC[row]) * 100 for row, _ in retold.TYPES))
+    for climate in (1, 2, 3, 4):
+        check(f"rates of climate {climate}", rates(climate), tuple(k * 1000 for k in retold.rates(climate)))
+    check("MCF", reference.MCF, tuple(Fraction(factor) * 100 for factor in retold.MCF.values()))
+    limits = reference.RECORDS, reference.BYTES, reference.MASS_LIMIT
+    check("limits", limits, (1200, 48, 1_000_000_000))
+    check("codes", (reference.KINDS, reference.CLIMATES, reference.CLASSES), ((1, 2), (1, 2, 3, 4), (1, 2, 3, 4)))
+    check("a fresh ledger", FRESH, (0, 0, 0, NOTHING, NOTHING))
+
+
+def tables():
+    """Each entry meets the rule of document 01, and is the true exponential rounded down."""
+    check("rates", (decay_tables.RATES, decay_tables.PARTS), (range(1, 401), {1: 1000, 2: 12000}))
+    for kind, rate in ((kind, rate) for kind in (1, 2) for rate in range(1, 401)):
+        x, D = Fraction(rate, (1000, 12000)[kind - 1]), decay(kind, rate)
+        above = sum((-x) ** i / factorial(i) for i in range(15))
+        below = above - x**15 / factorial(15)
+        check("E(15) and E(14)", (decay_tables.series(x, 15), decay_tables.series(x, 14)), (below, above))
+        check(f"rule for kind {kind} rate {rate}", D <= 10**9 * below and 10**9 * above < D + 1, True)
+        check(f"kind {kind} rate {rate}", D, retold.entry(kind, Decimal(rate) / 1000))
+    for kind, rate in [(0, 1), (3, 1), (255, 400), (1, 0), (2, 0), (1, 401), (2, 401), (1, 65535)]:
+        check(f"kind {kind} rate {rate}", decay(kind, rate), 0)
+
+
+def allowed():
+    """The table of "One record": every value of every byte, the edges of the wider fields, and the refusal outside."""
+    codes = {"kind": 2, "climate": 4, "site_class": 4}  # from 1 up to this
+    ranges = {"factor": 1, "OX": 0, "F": 0, "DOCf": 0, "GWP": 1}  # from this up to 100
+    fields = [(field, 1, high, 5) for field, high in codes.items()]
+    fields += [(field, low, 100, 8) for field, low in ranges.items()]
+    for field, low, high, number in fields:
+        for value in range(256):
+            check(f"{field} {value}", offered(**{field: value}).refusal, 0 if low <= value <= high else number)
+    for f, number in [(0, 0), (9999, 0), (10000, 0), (10001, 8), (65535, 8)]:
+        check(f"f {f}", offered(f=f).refusal, number)
+    for bit in range(32):
+        check(f"bit {bit} of bytes 12-15", offered(zero=(1 << bit).to_bytes(4, "little")).refusal, 5)
+    for place in range(1, 9):
+        for kg, number in [(10**9, 0), (10**9 + 1, 9), (2**32 - 1, 9)]:
+            check(f"mass {kg}", offered(masses=only(place, kg)).refusal, number)
+    for period, number in [(0, 6), (1, 0), (2, 6), (257, 6), (65535, 6)]:
+        check(f"period {period} first", offered(period=period).refusal, number)
+
+
+def refused():
+    """Refusals 1 to 4 and 7 at their edges; T's ceiling is that of the sources."""
+    data = write_record(PLAIN)
+    for length, number in [(0, 1), (47, 1), (48, 0), (49, 1), (96, 1)]:
+        check(f"{length} bytes", step(FRESH, (data * 2)[:length], ROOM).refusal, number)
+    for room, number in [(0, 2), (47, 2), (48, 0), (49, 0)]:
+        answer = step(FRESH, data, b"\xa5" * room)
+        check(f"room for {room} bytes", (answer.refusal, answer.output[48:]), (number, b"\xa5" * max(room - 48, 0)))
+    for n, number in [(1, 0), (2, 0), (1199, 0), (1200, 4), (1201, 3), (65535, 3)]:
+        full = tuple(map(int, retold.carbon((n * 10**9,) * 8)))
+        sound = Ledger(n, 1, 4, full, full)
+        check(f"{n} records", offered(sound, period=(n + 1) % 2**16).refusal, number)
+        for place in range(8):
+            more = replaced(full, place, full[place] + 1)
+            check("T over its ceiling", offered(sound._replace(T=more), period=2).refusal, 3)
+            check("R over T", offered(sound._replace(R=more), period=2).refusal, 3)
+    one = FRESH._replace(n=1, kind=1, climate=4)
+    for code in range(256):
+        check(f"kind {code} of a ledger", offered(one._replace(kind=code), period=2).refusal, {1: 0, 2: 7}.get(code, 3))
+        number = 0 if code == 4 else 7 if 1 <= code <= 3 else 3
+        check(f"climate {code} of a ledger", offered(one._replace(climate=code), period=2).refusal, number)
+    for field in ({"kind": 1}, {"climate": 1}, {"T": only(1, 1)}, {"R": only(8, 1)}):
+        check(f"a fresh ledger with {field}", offered(FRESH._replace(**field)).refusal, 3)
 
 
 def worked_figures():
@@ -40,24 +119,14 @@ def worked_figures():
         ("P9", 3, 4, 2, 4918, 145082),
         ("P10", 6, 1, 1, 0, 0),
     ]:
-        offered = PLAIN._replace(kind=kind, climate=climate, masses=only(place, 1))
-        answer = step(FRESH, write_record(offered), ROOM)
+        answer = offered(kind=kind, climate=climate, masses=only(place, 1))
         check(name, (answer.refusal, answer.releases, answer.ledger.R), (0, only(place, G), only(place, R)))
 
 
 def run_only():
-    def refusal(**changes):
-        return step(FRESH, write_record(PLAIN._replace(**changes)), ROOM).refusal
-
-    for place in range(1, 9):
-        check("mass 10^9", refusal(masses=only(place, 10**9)), 0)
-        check("mass 10^9 + 1", refusal(masses=only(place, 10**9 + 1)), 9)
-    check("factor 0", refusal(factor=0), 8)
-    check("period 0 first", refusal(period=0), 6)
-    captured = PLAIN._replace(f=10000, masses=(10**9,) * 8)
-    check("f 10000", step(FRESH, write_record(captured), ROOM).figure, 0)
+    check("f 10000", offered(f=10000, masses=(10**9,) * 8).figure, 0)
     file = b"".join(write_record(PLAIN._replace(period=n, masses=(n,) * 8)) for n in range(1, 1202))
-    check("record 1200", reference.run(FRESH, file[:-BYTES], file)[1:3], (1200, 0))
+    check("record 1200", reference.run(FRESH, file[:-48], file)[1:3], (1200, 0))
     check("record 1201", reference.run(FRESH, file, file)[1:3], (1200, 4))
     check("no bytes", (reference.listing(b""), reference.run(FRESH, b"", b"")), ("", (FRESH, 0, 0, b"")))
 
@@ -69,22 +138,13 @@ def listing_sample():
     check("listing", reference.listing(file), wanted)
 
 
-def tables():
-    """Each entry is the true exponential rounded down: a longer pair of sums encloses it more closely."""
-    for kind, parts in decay_tables.PARTS.items():
-        for rate in decay_tables.RATES:
-            low, high = (floor(10**9 * decay_tables.series(Fraction(rate, parts), n)) for n in (31, 30))
-            check(f"kind {kind} rate {rate}", (low, high), (decay(kind, rate),) * 2)
-    for kind, rate in [(0, 1), (3, 1), (255, 400), (1, 0), (2, 0), (1, 401), (2, 401), (1, 65535)]:
-        check(f"kind {kind} rate {rate}", decay(kind, rate), 0)
-
-
 def door():
     """The bits that the reference reads and writes are held against Python's own floats."""
     for float_, wanted in [
         (-0.5, (11, 0)),
         (-1.0, (12, 0)),
         (-0.0, (0, 0)),
+        (1.0, (0, 1)),
         (1e9, (0, 10**9)),
         (1e9 + 1, (12, 0)),
         (1e9 + 0.5, (11, 0)),
@@ -95,6 +155,8 @@ def door():
     ]:
         check(f"cell {float_}", reference.cell(pattern(float_)), wanted)
     check("empty cell", reference.cell(None), (10, 0))
+    for float_ in (0.0, 5e-324, -2.0**-1022, 3 * 2.0**-1023, 1.5, -2.0**1023, 2.0**53 - 1):
+        check(f"value of {float_}", reference.value_of(pattern(float_)), Fraction(float_))
     for figure, bound in [(0, 0), (7, 7), (3, 5), (311547, 3), (2**53 - 1, 1), (2**53, 0), (2**52 + 1, 2**51)]:
         edges = float(figure), float(max(figure - bound, 0)), float(figure + bound)
         check(f"point {figure} {bound}", reference.point(figure, bound), (0, *map(pattern, edges)))
@@ -106,17 +168,36 @@ def pattern(float_):
     return struct.unpack("<Q", struct.pack("<d", float_))[0]
 
 
+def fields_of(data):
+    """A record's fields, read by Python's own means."""
+    record = Record(*struct.unpack("<H8BH4s", data[:16]), struct.unpack("<8I", data[16:]))
+    check("record", (read_record(data), write_record(record)), (record, data))
+    return record
+
+
+def told_again(ledger, data, answer):
+    """An accepted record's step and its output record, each told a second time."""
+    record = fields_of(data)
+    n, kind, climate, T, R = answer.ledger
+    check("ledger", (n, kind, climate), (ledger.n + 1, record.kind, record.climate))
+    check("step", (T, R, *answer[2:6]), retold.step(ledger, record))
+    numbers = *answer[3:6], sum(R), sum(T)
+    check("output record", answer.output, struct.pack("<HBBI5Q", record.period, kind, climate, 0, *numbers))
+    return record
+
+
+def unlikely():
+    """What no accepted record shows: every byte of a record another, and a ledger of a milligram of each type."""
+    fields_of(bytes(range(1, 49)))
+    ledger = Ledger(1, 1, 4, *[replaced((1,) * 8, 5, 0)] * 2)
+    data = write_record(PLAIN._replace(period=2, GWP=100))
+    told_again(ledger, data, step(ledger, data, ROOM))
+
+
 def exact_stock(brought, d):
     """Every deposit times the fraction once for its own period and once for each later one."""
     n = len(brought)
     return sum((deposit * d ** (n - i + 1) for i, deposit in enumerate(brought, 1)), Fraction(0))
-
-
-def exact_figure(record, release):
-    """The chain with no rounding."""
-    x1 = release * record.factor * (10000 - record.f) / 10**6
-    x2 = x1 * (100 - record.OX) * record.F * record.DOCf * MCF[record.site_class - 1] / 10**8
-    return x2 * 4 * record.GWP / 3000
 
 
 def demand_3(rng, kind, climate, part):
@@ -131,9 +212,10 @@ def demand_3(rng, kind, climate, part):
         data = damaged(rng, data) if rng.random() < 0.2 else data
         answer = step(ledger, data, ROOM)
         if answer.refusal:
-            check("refused", (answer.ledger, answer.output), (ledger, ROOM))
+            check("refused", (answer.ledger, *answer[2:]), (ledger, NOTHING, 0, 0, 0, ROOM))
             continue
-        ledger, record, before = answer.ledger, read_record(data), stock
+        record = told_again(ledger, data, answer)
+        ledger, before = answer.ledger, stock
         n, left = ledger.n, ledger.R
         brought = [earlier + (deposit,) for earlier, deposit in zip(brought, deposits(record))]
         released = [earlier + release for earlier, release in zip(released, answer.releases)]
@@ -143,7 +225,7 @@ def demand_3(rng, kind, climate, part):
         for R, T, exact in zip(left, ledger.T, stock):
             check("stock", R <= exact < R + n + Fraction(n * T, 10**9), True)
         release = sum(before) + sum(deposits(record)) - sum(stock)
-        check("figure", abs(answer.figure - exact_figure(record, release)) < answer.bound, True)
+        check("figure", abs(answer.figure - retold.exact_figure(record, release)) < answer.bound, True)
 
 
 def cases_page():
@@ -153,15 +235,19 @@ def cases_page():
     for example, wanted in zip(block[::3], block[1::3], strict=True):
         parts = [word.split("*") for word in example.split()]
         stream = b"".join(bytes.fromhex(part[0]) * int(part[1] if part[1:] else 1) for part in parts)
-        check(example, cases.printed(stream), wanted + "\n")
+        check(f"docs/CASES.md, {example}", cases.printed(stream), wanted + "\n")
 
 
 def main():
+    constants()
     worked_figures()
+    allowed()
+    refused()
     run_only()
     listing_sample()
-    tables()
     door()
+    tables()
+    unlikely()
     rng = random.Random(1)
     for kind, climate in KINDS_AND_CLIMATES:
         for part in (Fraction(0), Fraction(rng.randint(1, 98), 99), 1 - Fraction(1, 10**9), 1 - Fraction(1, 10**40)):

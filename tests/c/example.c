@@ -1,64 +1,86 @@
-/* A first program with the library: three yearly records of one site, a step at a time, then the whole file's listing.
+/* A first program with the library: two years of the site that docs/METHOD.md works by hand.
  * Build it with: gcc -Iinclude tests/c/example.c target/staticlib/libabi.a */
 #include "landfill.h"
 
 #include <inttypes.h>
 #include <stdio.h>
-#include <string.h>
+#include <stdlib.h>
 
-static void put(uint8_t *bytes, int count, uint64_t number)
+static void say(const char *what, uint8_t refusal)
 {
-    for (int i = 0; i < count; i++) bytes[i] = (uint8_t)(number >> 8 * i);
+    printf("%s: refused with %u: %s\n", what, refusal, landfill_refusal_text(refusal));
 }
 
-static uint64_t get(const uint8_t *bytes)
+/* A weight as the operator types it, in tonnes. A refused one ends the program: its mass is not known, and not 0. */
+static uint32_t weighed(double tonnes)
 {
-    uint64_t number = 0;
-    for (int i = 7; i >= 0; i--) number = number << 8 | bytes[i];
-    return number;
+    uint32_t kg;
+    uint8_t refusal = landfill_cell(1, landfill_kg(tonnes), &kg);
+    if (refusal == LANDFILL_ACCEPTED) return kg;
+    say("weight", refusal);
+    exit(1);
 }
 
-/* A yearly record of a managed tropical wet site that was brought so many kilograms of food waste. */
-static void fill(uint8_t *record, unsigned period, uint32_t food_kg)
+static void print_year(const uint8_t *out)
 {
-    memset(record, 0, LANDFILL_RECORD_BYTES);
-    put(record, 2, period);
-    record[2] = 1;                       /* yearly */
-    record[3] = 4;                       /* climate: tropical wet */
-    record[4] = 75;                      /* correction factor, percent */
-    record[5] = 10;                      /* oxidation OX, percent */
-    record[6] = 50;                      /* methane share F, percent */
-    record[7] = 50;                      /* DOCf, percent */
-    record[8] = 1;                       /* site class: anaerobic managed */
-    record[9] = 28;                      /* warming potential GWP */
-    put(record + 10, 2, 0);              /* captured f, hundredths of a percent */
-    put(record + 16 + 4 * 2, 4, food_kg); /* type 3: food, beverages, tobacco */
+    struct landfill_output year = landfill_get_output(out);
+    printf("year %" PRIu32 ": %" PRIu64 " mg of carbon released, which is %" PRIu64 " g CO2e, give or take %" PRIu64 "\n",
+           year.period, year.x0, year.figure, year.bound);
 }
 
 int main(void)
 {
-    uint8_t ledger[LANDFILL_LEDGER_BYTES], file[3 * LANDFILL_RECORD_BYTES];
-    uint8_t out[LANDFILL_RECORD_BYTES], answer[LANDFILL_ANSWER_BYTES], text[3 * LANDFILL_LINE_BYTES];
-    uint64_t stock, brought, length;
+    uint8_t ledger[LANDFILL_LEDGER_BYTES], first[LANDFILL_RECORD_BYTES], later[2 * LANDFILL_RECORD_BYTES];
+    uint8_t out[2 * LANDFILL_RECORD_BYTES], answer[LANDFILL_ANSWER_BYTES], refusal;
+    uint64_t accepted, stock, brought;
+    uint32_t kg;
 
-    fill(file, 1, 1000);
-    fill(file + 48, 2, 0);
-    fill(file + 96, 5, 0); /* out of turn: refused with 6 */
+    /* The first year: an unmanaged deep site in a temperate wet climate, a fifth of its gas captured. */
+    struct landfill_record year = {0};
+    year.period = 1;
+    year.kind = LANDFILL_YEARLY;
+    year.climate = LANDFILL_TEMPERATE_WET;
+    year.factor = 85;
+    year.OX = 10;
+    year.F = 50;
+    year.DOCf = 50;
+    year.site_class = LANDFILL_UNMANAGED_DEEP;
+    year.GWP = 28;
+    year.captured = 2000;
+    year.mass[LANDFILL_PAPER] = weighed(121.5);
+    year.mass[LANDFILL_FOOD] = weighed(400.2);
+    year.mass[LANDFILL_INERT] = weighed(150);
+    landfill_put_record(first, &year);
 
     landfill_fresh(ledger, sizeof ledger);
-    for (int i = 0; i < 3; i++) {
-        uint8_t refusal = landfill_take(ledger, sizeof ledger, file + 48 * i, 48, out, sizeof out, answer, sizeof answer);
-        if (refusal != LANDFILL_ACCEPTED) printf("record %d: refused with %u\n", i + 1, refusal);
-        else
-            printf("record %d: %" PRIu64 " mg of carbon released, %" PRIu64 " of it by food, which is %" PRIu64
-                   " g CO2e, give or take %" PRIu64 "\n",
-                   i + 1, get(answer + 64), get(answer + 16), get(answer + 72), get(answer + 80));
+    refusal = landfill_take(ledger, sizeof ledger, first, sizeof first, out, sizeof out, answer, sizeof answer);
+    if (refusal != LANDFILL_ACCEPTED) {
+        say("year 1", refusal);
+        return 1;
     }
+    print_year(out);
+    printf("  of this, paper released %" PRIu64 " mg\n", landfill_get_release(answer, LANDFILL_PAPER));
 
+    /* A file of two records more: the second year, and one that is out of turn. */
+    year.period = 2;
+    year.mass[LANDFILL_PAPER] = 0;
+    year.mass[LANDFILL_FOOD] = weighed(300);
+    year.mass[LANDFILL_INERT] = 0;
+    landfill_put_record(later, &year);
+    year.period = 4;
+    landfill_put_record(later + LANDFILL_RECORD_BYTES, &year);
+
+    refusal = landfill_run(ledger, sizeof ledger, later, sizeof later, out, sizeof out, &accepted);
+    for (uint64_t i = 0; i < accepted; i++) print_year(out + LANDFILL_RECORD_BYTES * i);
+    if (refusal != LANDFILL_ACCEPTED) say("the record after these", refusal);
+
+    /* The refused record has left the ledger as it was. */
     landfill_totals(ledger, sizeof ledger, &stock, &brought);
     printf("in the ground: %" PRIu64 " mg of %" PRIu64 " mg brought in\n", stock, brought);
 
-    landfill_listing(file, sizeof file, text, sizeof text, &length);
-    printf("the listing of the file:\n%.*s", (int)length, (const char *)text);
+    /* Why tonnes are rounded: 2.01 * 1000.0 is 2009.9999999999998. */
+    refusal = landfill_cell(1, 2.01 * 1000.0, &kg);
+    say("2.01 t as 2.01 * 1000.0", refusal);
+    printf("2.01 t by landfill_kg: %" PRIu32 " kg\n", weighed(2.01));
     return 0;
 }

@@ -1,5 +1,5 @@
 #!/usr/bin/env bash
-# Builds the C programs for x86-64 and runs them: the example, then the library against the reference.
+# Builds the C programs for x86-64 and runs them: the example, the library against the reference, the door under all modes.
 # Usage: bash tests/c/run.sh [--library FILE | --standin] [--seed NUMBER]
 #   --library FILE   links this archive in the place of target/staticlib/libabi.a
 #   --standin        links the reference in the library's place, to try the test itself
@@ -8,6 +8,22 @@ cd "$(dirname "$0")/../.."
 . tests/c/build.sh
 prepare "$@"
 
+# The header compiles without a warning, and its helpers give the bytes written out by hand. C++ takes the machine's own g++.
+for standard in c99 c11; do
+    build "header-$standard" -std=$standard -Wpedantic tests/c/header.c
+    run "$target/header-$standard"
+done
+echo "header: as expected in C99 and C11"
+if command -v g++ >/dev/null; then
+    for standard in c++11 c++17; do
+        g++ -std=$standard -Wall -Wextra -Wpedantic -Werror -Iinclude -o "$target/header-$standard" tests/c/header.cpp
+        "$target/header-$standard"
+    done
+    echo "header: as expected in C++11 and C++17"
+else
+    echo "header: no g++ here, C++ not tried"
+fi
+
 build example tests/c/example.c "$library"
 run "$target/example" >"$target/example.txt"
 diff tests/c/example.txt "$target/example.txt"
@@ -15,3 +31,8 @@ echo "example: as expected"
 
 build differential tests/c/differential.c tests/c/sides.c tests/c/inputs.c tests/c/reference.c tests/c/entries.c "$library"
 run "$target/differential" "$seed"
+
+# The reference works with floats, so that the modes change its answers.
+[ "$library" != "$target/standin/libstandin.a" ] || exit 0
+build modes tests/c/modes.c tests/c/inputs.c tests/c/reference.c "$library"
+run "$target/modes" "$seed"

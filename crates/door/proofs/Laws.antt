@@ -1,18 +1,17 @@
 -- What holds of every cell and every point.
 use mathlib.Core.Path.{_≡_, refl, sym, ap, _∙_}
-use mathlib.Core.Bool.{Bool, true, false, cond, true≢false}
-use Prim.Native.Nat.{ℕ, suc, _+_, _-_, _*_, _/_, _%_, _≤_}
-use native.Mathlib.Nat.{mul-one, mul-div-cancel, mul-mod-left, le-trans}
+use mathlib.Core.Bool.{Bool, true, false, cond}
+use Prim.Native.Nat.{ℕ, suc, _+_, _-_, _≤_}
+use native.Mathlib.Nat.{mul-one, le-trans}
 use native.Mathlib.Omega.{arith}
 use lib.Dec.{T, leb, eqb, lit≤, lit<}
 use lib.IntN.{pos, negsuc}
-use lib.Ieee.{Float, nan, inf, fin, binary64, up, down, round, le, ofInt}
-use lib.Ieee.Fits.{down-pos}
-use lib.Ieee.Exact.{HasValue}
+use lib.Ieee.{Float, binary64, round, le, ofInt}
 use lib.Ieee.Back.{round-whole}
 use lib.Ieee.Order.{round-mono}
 use borrow.Author.Tests.{le-leb, leb-true}
-use Rattle.door.specs.Cell.{massLimit, Whole, whole, not-whole, wholeOf, refused, accepted, numbersOf, answerToNumber, answerTo}
+use Rattle.waste.specs.Waste.{massLimit}
+use Rattle.door.specs.Cell.{Whole, whole, not-whole, wholeOf, refused, accepted, numbersOf, answerToNumber, answerTo}
 use Rattle.door.specs.Point.{exact, floatOf, pointOf, chartedOf}
 use Rattle.door.specs.declared.cell.Cell.{Cell}
 use Rattle.door.specs.declared.cell.Cell.the-variants.{Empty, Number}
@@ -21,6 +20,7 @@ use Rattle.door.specs.declared.cell.Weighed.{Weighed}
 use Rattle.door.specs.declared.cell.Weighed.the-variants.{Mass, EmptyCell, NotWhole, OutOfRange}
 use Rattle.door.specs.declared.point.Charted.{Charted}
 use Rattle.door.specs.declared.point.Point.{Point}
+use Rattle.door.proofs.Whole.{is-whole}
 
 -- the case of the answer that has these numbers
 caseOf : Numbers → Weighed
@@ -41,20 +41,10 @@ one-answer cell a b p q = sym (same-case a) ∙ ap caseOf (p ∙ sym q) ∙ same
 pub one-point : (figure bound : ℕ) (a b : Charted) → a ≡ chartedOf figure bound → b ≡ chartedOf figure bound → a ≡ b
 one-point figure bound a b p q = p ∙ sym q
 
-whole-of : (x : Float) (n : ℕ) → HasValue x false n 1 → wholeOf x ≡ whole (pos n)
-whole-of nan n h = absurd h
-whole-of (inf s) n h = absurd h
-whole-of (fin true m e) n h = absurd (true≢false (h .0))
-whole-of (fin false m e) n h =
-    let q : m * up e ≡ n * down e = sym (mul-one (m * up e)) ∙ h .1 in
-    let r : m * up e % down e ≡ 0 = ap (λ (k : ℕ). k % down e) q ∙ mul-mod-left n (down e) in
-    let d : m * up e / down e ≡ n = ap (λ (k : ℕ). k / down e) q ∙ mul-div-cancel n (down-pos e) in
-    rw (r, d)
-
 -- The float of a whole number up to 2^53 is exactly that number.
 pub float-exact : (n : ℕ) → n ≤ exact → wholeOf (floatOf n) ≡ whole (pos n)
 unfolding ofInt
-float-exact n h = whole-of (round binary64 false n 1) n (round-whole binary64 false n h)
+float-exact n h = is-whole (round binary64 false n 1) false n 1 (lit< tt) (rw mul-one (round-whole binary64 false n (omega arith)))
 
 -- A mass made a float and read back through a cell is that mass.
 pub mass-read-back : (mass : ℕ) → mass ≤ massLimit → numbersOf (Mass mass) ≡ answerTo (Number (floatOf mass))

@@ -1,3 +1,3 @@
 pub mod Whole
-pub mod Mass
+pub mod Bits
 pub mod Laws

@@ -1,18 +1,15 @@
 -- Document 01, "The spreadsheet door", its first paragraph: what a cell is answered.
-use Prim.Native.Nat.{ℕ, _*_, _/_, _%_, _^_}
+use Prim.Native.Nat.{ℕ, _*_, _/_, _%_}
 use mathlib.Core.Bool.{Bool, true, false, cond}
 use lib.Dec.{leb, eqb}
 use lib.IntN.{ℤ, pos, negsuc, negℤ}
 use lib.Ieee.{Float, nan, inf, fin, up, down}
+use Rattle.waste.specs.Waste.{massLimit}
 use Rattle.door.specs.declared.cell.Cell.{Cell}
 use Rattle.door.specs.declared.cell.Cell.the-variants.{Empty, Number}
 use Rattle.door.specs.declared.cell.Numbers.{Numbers}
 use Rattle.door.specs.declared.cell.Weighed.{Weighed}
 use Rattle.door.specs.declared.cell.Weighed.the-variants.{Mass, EmptyCell, NotWhole, OutOfRange}
-
--- The largest mass, in kilograms.
-abbrev pub massLimit : ℕ
-massLimit = 10 ^ 9
 
 -- A refused cell gives mass 0.
 abbrev pub refused : ℕ → Numbers

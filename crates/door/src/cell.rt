@@ -1,7 +1,9 @@
 // A cell of the sheet, and the mass that it names.
 ghost use mathlib.Core.Path.{_≡_};
-ghost use Rattle.door.specs.Cell.{answerTo, isWhole, numbersOf, wholeOf};
-use crate::EXACT;
+ghost use Prim.Native.Nat.{_^_, _<_};
+ghost use lib.Ieee.{Float, binary64, ofBits};
+ghost use lib.Ieee.Exact.{HasValue};
+ghost use Rattle.door.specs.Cell.{answerTo, answerToNumber, numbersOf, wholeOf};
 
 // Empty, or a number of kilograms.
 pub enum Cell {
@@ -25,7 +27,7 @@ pub struct Numbers {
 
 impl Cell {
     // The largest mass of a cell, in kilograms.
-    pub const MASS_LIMIT: u32 = 1_000_000_000;
+    pub const MASS_LIMIT: u32 = waste::MASS_LIMIT as u32;
 }
 
 impl Weighed {
@@ -51,17 +53,55 @@ impl Weighed {
     }
 }
 
-const ALL_WHOLE: f64 = EXACT as f64;
+// A number's bits are its sign, its exponent and its digits behind the leading one, which stands at LEAD.
+const SIGN: u64 = 1 << 63;
 
-// Tells whether a number is whole, which an infinity and a NaN are not.
-fn is_whole(kg: f64) -> bool
-    ensures { λ r. ⌜ r ≡ isWhole (wholeOf kg) ⌝ }
+const LEAD: u64 = 1 << 52;
+
+// The exponent of 1, that of 2^52, from which on every number is whole, and that of the infinities and NaNs.
+const ONE: u64 = 1023;
+
+const ALL_WHOLE: u64 = ONE + 52;
+
+const NOT_FINITE: u64 = 2047;
+
+// Answers the mass of a number, or the refusal, from its sign, its digits and how many of these stand behind the point.
+fn weigh_digits(minus: bool, digits: u64, behind: u64) -> Weighed
+    requires { ⌜ (0 < digits) × (behind < 64) ⌝ }
+    ensures { λ r. ⌜ ((number : Float) → HasValue number minus digits (2 ^ behind) → numbersOf r ≡ answerToNumber (wholeOf number)) ⌝ }
 {
-    if -ALL_WHOLE < kg && kg < ALL_WHOLE {
-        return (std::num::truncating_f64_to_i64(kg) as f64) == kg;
+    let kg = digits >> behind;
+    if kg << behind != digits {
+        return Weighed::NotWhole;
     }
-    let infinity = 1.0 / 0.0;
-    -infinity < kg && kg < infinity
+    if minus {
+        return Weighed::OutOfRange;
+    }
+    if kg > Cell::MASS_LIMIT as u64 {
+        return Weighed::OutOfRange;
+    }
+    Weighed::Mass(kg as u32)
+}
+
+// Answers the mass that a number's bits name, or the refusal: by whole numbers, which no floating-point mode changes.
+fn weigh_bits(bits: u64) -> Weighed
+    ensures { λ r. ⌜ numbersOf r ≡ answerToNumber (wholeOf (ofBits binary64 bits)) ⌝ }
+{
+    let size = bits % SIGN;
+    if size == 0 {
+        return Weighed::Mass(0);
+    }
+    let exponent = size / LEAD;
+    if exponent < ONE {
+        return Weighed::NotWhole;
+    }
+    if exponent == NOT_FINITE {
+        return Weighed::NotWhole;
+    }
+    if exponent >= ALL_WHOLE {
+        return Weighed::OutOfRange;
+    }
+    weigh_digits(bits >= SIGN, LEAD + bits % LEAD, ALL_WHOLE - exponent)
 }
 
 // Answers the mass that a cell names, or refuses the cell.
@@ -71,14 +111,9 @@ pub fn weigh(cell: Cell) -> Weighed
     let Cell::Number(kg) = cell else {
         return Weighed::EmptyCell;
     };
-    if is_whole(kg) {
-        if kg < 0.0 {
-            return Weighed::OutOfRange;
-        }
-        if kg > Cell::MASS_LIMIT as f64 {
-            return Weighed::OutOfRange;
-        }
-        return Weighed::Mass(std::num::truncating_f64_to_u64(kg) as u32);
+    // a NaN, which alone differs from itself, in every mode
+    if kg != kg {
+        return Weighed::NotWhole;
     }
-    Weighed::NotWhole
+    weigh_bits(f64::to_bits(kg))
 }

@@ -11,5 +11,5 @@ pub use point::Charted;
 pub use point::Point;
 pub use point::chart;
 
-// Two to the 53: each whole number up to here is a float exactly, and each finite float from here on is a whole number.
+// Two to the 53: each whole number up to here is a float exactly.
 pub const EXACT: u64 = 9_007_199_254_740_992;

@@ -29,6 +29,7 @@ pub fn chart(figure: u64, bound: u64) -> Charted
     ensures { λ r. ⌜ r ≡ chartedOf figure bound ⌝ }
 {
     if figure <= EXACT && bound <= EXACT - figure {
+        // up to two to the 53 the casts round nothing, so that no rounding mode changes a point
         let low = low_edge(figure, bound);
         return Charted {
             point: Point {

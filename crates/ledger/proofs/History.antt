@@ -9,13 +9,14 @@ use borrow.Author.Tests.{eq-eqb, ne-eqb}
 use lib.ListN.{length, take, drop, length-drop, length-append}
 use lib.Seq.{take-append-le, drop-append-le, take-all}
 use Rattle.record.specs.Fields.{recordBytes}
+use Rattle.ledger.specs.Stock.{mostRecords, after}
 use Rattle.ledger.specs.Refusal.{refusalOf}
 use Rattle.ledger.specs.Take.{acceptedOf, takeOf, outputRecord}
 use Rattle.ledger.specs.History.{Offer, Turn, turnOf, turns, ledgerAfter, isAccepted, leading, ending, outputs, cut, recordsOf, inTurn, Run, runOf}
 use Rattle.ledger.specs.declared.book.Ledger.{Ledger}
 use Rattle.ledger.specs.declared.answer.Answer.{Answer}
 use Rattle.ledger.proofs.Take.{taken, not-taken, take-refusal, output-length}
-use Rattle.ledger.proofs.Accepted.{room-alike}
+use Rattle.ledger.proofs.Accepted.{accepted, room-alike}
 
 -- A file of no bytes has no records, and any other has a first record and the records of the rest.
 pub no-records : (file : List ℕ) → length file ≡ 0 → recordsOf file ≡ []
@@ -33,6 +34,16 @@ pub one-record : (bytes : List ℕ) → length bytes ≡ recordBytes → records
 one-record bytes h =
     first-record bytes (omega arith)
     ∙ rw (no-records (drop recordBytes bytes) (simp length-drop (omega arith)), take-all recordBytes bytes (omega arith))
+
+-- A file has a record for every 48 bytes begun.
+cut-length : (k : ℕ) (file : List ℕ) → length (cut k file) ≡ k
+unfolding cut
+cut-length zero file = refl
+cut-length (suc k) file = ap suc (cut-length k (drop recordBytes file))
+
+pub records-count : (file : List ℕ) → length (recordsOf file) ≡ (length file + 47) / recordBytes
+unfolding recordsOf
+records-count file = cut-length ((length file + 47) / recordBytes) file
 
 -- Whole records in front of a file are in front of its records.
 pub records-join : (k : ℕ) (file rest : List ℕ) → length file ≡ recordBytes * k
@@ -110,6 +121,41 @@ run-join l (bytes ∷ xs) ys room none =
           ∙ ap (onFrom (acceptedTurn l bytes ∷ [])) on
           ∙ rw (first, left)
       | no e ↦ absurd (e (sym (ap (λ (r : Run). r .refusal) (run-stops l bytes xs room (refusalOf l bytes room) refl e)) ∙ none))
+    ]
+
+-- Records behind one that is refused change nothing.
+pub run-refused : (l : Ledger) (xs ys : List (List ℕ)) (room : ℕ) → (runOf l xs room .refusal ≡ 0 → ⊥) → runOf l (xs ++ ys) room ≡ runOf l xs room
+run-refused l [] ys room some = absurd (some (ap (λ (r : Run). r .refusal) (run-ends l room)))
+run-refused l (bytes ∷ xs) ys room some =
+    elim (ℕ-discrete (refusalOf l bytes room) 0) [
+      | yes e ↦
+          let first = run-goes-on l bytes xs room e in
+          run-goes-on l bytes (xs ++ ys) room e
+          ∙ ap (onFrom (acceptedTurn l bytes ∷ []))
+          (run-refused (acceptedOf l bytes .ledger) xs ys (room - recordBytes) (λ z. some (ap (λ (r : Run). r .refusal) first ∙ z)))
+          ∙ sym first
+      | no e ↦ run-stops l bytes (xs ++ ys) room (refusalOf l bytes room) refl e ∙ sym (run-stops l bytes xs room (refusalOf l bytes room) refl e)
+    ]
+
+-- n counts the accepted records, which are no more than there are, and fewer where one is refused.
+pub record Counts (l : Ledger) (xs : List (List ℕ)) (r : Run) : Type 0 where
+  pub n : r .ledger .n ≡ l .n + length (r .accepted)
+  pub few : r .ledger .n ≤ mostRecords
+  pub some : length (r .accepted) ≤ length xs
+  pub fewer : (r .refusal ≡ 0 → ⊥) → length (r .accepted) < length xs
+
+pub run-counts : (l : Ledger) (xs : List (List ℕ)) (room : ℕ) → l .n ≤ mostRecords → Counts l xs (runOf l xs room)
+unfolding acceptedOf after
+run-counts l [] room h = rw (run-ends l room) (record { n = omega arith; few = h; some = omega arith; fewer = λ q. absurd (q refl) })
+run-counts l (bytes ∷ xs) room h =
+    elim (ℕ-discrete (refusalOf l bytes room) 0) [
+      | yes e ↦
+          let more = accepted l bytes room e .more in
+          let on = run-counts (acceptedOf l bytes .ledger) xs (room - recordBytes) (omega arith) in
+          rw (run-goes-on l bytes xs room e)
+          (record { n = omega (arith, on .n); few = on .few; some = omega (arith, on .some); fewer = λ q. omega (arith, on .fewer q) })
+      | no e ↦ rw (run-stops l bytes xs room (refusalOf l bytes room) refl e)
+          (record { n = omega arith; few = h; some = omega arith; fewer = λ q. omega arith })
     ]
 
 -- With room for every output record, how much room there is changes nothing.

@@ -1,44 +1,33 @@
--- `weigh` is right: each answer by what the tests before it say of the number (Mass.antt).
+-- `weigh` is right: only a NaN differs from itself, and the bits of any other number are that number, which `weigh_bits` answers.
 use borrow.Author.Needs.{needs}
 use mathlib.Core.Path.{_≡_, sym, ap, _∙_}
-use mathlib.Core.Bool.{true}
-use native.Mathlib.Omega.{arith}
-use lib.Ieee.{Float, ofBits, ofInt}
-use Rattle.door.specs.Cell.{isWhole, wholeOf, answerTo, answerToNumber}
-use Rattle.door.proofs.Mass.{IsMass, is-mass, below-12, above-12, not-whole-11}
+use mathlib.Core.Bool.{false, not, true≢false}
+use lib.Dec.{T}
+use lib.Ieee.{Float, nan, inf, fin, binary64, ne, isNan}
+use lib.Ieee.Bits.{ofBits-toBits}
+use lib.Ieee.Compare.{differs-from-itself}
+use denote.Floats.{passes}
+use Rattle.door.specs.Cell.{wholeOf, answerTo, answerToNumber}
 use Rattle.door.proofs.cell.weigh.Statement.{statement}
 use Rattle.door.proofs.cell.weigh.Tie as tie
 
 -- the number in the cell
-abbrev kg : tie.After-is-whole → Float
-kg c = c .before .before .cell .given .0 .0
+abbrev kg : tie.After-known-told → Float
+kg c = c .before .cell .given .0 .0
 
-asked : (c : tie.After-is-whole) → answerToNumber (wholeOf (kg c)) ≡ answerTo (c .before .before .before .before .args .cell)
-asked c = sym (ap answerTo (c .before .before .cell .given .1))
+asked : (c : tie.After-known-told) → (x : Float) → x ≡ kg c → answerToNumber (wholeOf x) ≡ answerTo (c .before .before .before .args .cell)
+asked c x e = ap (λ (y : Float). answerToNumber (wholeOf y)) e ∙ sym (ap answerTo (c .before .cell .given .1))
 
-is-whole : (c : tie.Then1) → isWhole (wholeOf (kg (c .before))) ≡ true
-is-whole c = sym (c .before .is-whole .ensures) ∙ c .if1 .taken
-
-at-mass : (c : tie.Else3) → IsMass (kg (c .before .before .before)) (wholeOf (kg (c .before .before .before)))
-unfolding ofBits ofInt
-at-mass c = is-mass _ (is-whole (c .before .before)) (c .before .if2 .left) (c .if3 .left)
-
-returns-2 : tie.Need-returns-2
-unfolding ofBits
-returns-2 c = below-12 _ (is-whole (c .before)) (c .if2 .taken) ∙ asked (c .before .before)
-
-returns-3 : tie.Need-returns-3
-unfolding ofBits ofInt
-returns-3 c = above-12 _ (is-whole (c .before .before)) (c .if3 .taken) ∙ asked (c .before .before .before)
-
-returns-4 : tie.Need-returns-4
-returns-4 c = rw (c .truncating-f64-to-u64 .ensures) (at-mass (c .before) .mass) ∙ asked (c .before .before .before .before)
+no-nan : (x : Float) → ne x x ≡ false → T (not (isNan x))
+unfolding ne isNan
+no-nan nan t = absurd (true≢false t)
+no-nan (inf s) t = tt
+no-nan (fin s m e) t = tt
 
 pub weigh-spec : {M : Type 1} → statement M
 weigh-spec =
     tie.close
-    (tie.spec (λ c. search needs) (λ c. search needs) (λ c. search needs) (λ c κs. search needs) returns-2
-    (λ c. search needs) returns-3 (λ c κs. at-mass c .room)
-    (λ c. omega (arith, c .truncating-f64-to-u64 .ensures, at-mass (c .before) .small))
-    returns-4
-    (λ c. not-whole-11 (wholeOf (kg (c .before))) (sym (c .before .is-whole .ensures) ∙ c .if1 .left) ∙ asked (c .before)))
+    (tie.spec (λ c. search needs) (λ c. search needs) (λ c. search needs)
+    (λ c. asked (c .before) nan (sym (differs-from-itself (kg (c .before)) (passes _ (c .if1 .taken)))))
+    (λ c. no-nan (kg (c .before)) (c .if1 .left)) (λ c κs. search needs)
+    (λ c. c .weigh-bits .ensures ∙ asked (c .before .before) _ (ofBits-toBits binary64 (kg (c .before .before)) (passes _ (c .before .before .known-told .given .0 .1)))))

@@ -1,0 +1,211 @@
+/* Uses every constant and helper of landfill.h and holds each against what was written out by hand. Calls no entry.
+ * header.cpp compiles the same as C++. */
+#include "landfill.h"
+#include "landfill.h"
+
+#include <math.h>
+#include <stdio.h>
+#include <string.h>
+
+static int wrong;
+
+static void check(const char *name, int right)
+{
+    if (right) return;
+    printf("header: %s is wrong\n", name);
+    wrong = 1;
+}
+
+static void check_bytes(const char *name, const uint8_t *have, const uint8_t *want, size_t count)
+{
+    check(name, memcmp(have, want, count) == 0);
+}
+
+/* Lists of constants whose numbers follow one another, by their first number and the step. */
+static void check_row(const char *name, const int *have, int count, int first, int step)
+{
+    int i;
+    for (i = 0; i < count; i++) check(name, have[i] == first + step * i);
+}
+
+static void check_codes(void)
+{
+    static const int kinds[] = {LANDFILL_YEARLY, LANDFILL_MONTHLY};
+    static const int climates[] = {LANDFILL_TEMPERATE_DRY, LANDFILL_TEMPERATE_WET, LANDFILL_TROPICAL_DRY,
+                                   LANDFILL_TROPICAL_WET};
+    static const int classes[] = {LANDFILL_ANAEROBIC_MANAGED, LANDFILL_SEMI_AEROBIC_MANAGED, LANDFILL_UNMANAGED_DEEP,
+                                  LANDFILL_UNMANAGED_SHALLOW};
+    static const int types[] = {LANDFILL_WOOD, LANDFILL_PAPER, LANDFILL_FOOD, LANDFILL_TEXTILES, LANDFILL_GARDEN,
+                                LANDFILL_INERT, LANDFILL_DOMESTIC_SLUDGE, LANDFILL_PAPER_SLUDGE};
+    static const int refusals[] = {LANDFILL_ACCEPTED, LANDFILL_NOT_48_BYTES, LANDFILL_NO_ROOM, LANDFILL_UNSOUND,
+                                   LANDFILL_FULL, LANDFILL_NOT_A_CODE, LANDFILL_OUT_OF_TURN, LANDFILL_OTHER_SERIES,
+                                   LANDFILL_OUT_OF_RANGE, LANDFILL_MASS_TOO_LARGE, LANDFILL_CELL_EMPTY,
+                                   LANDFILL_CELL_NOT_WHOLE, LANDFILL_CELL_OUTSIDE, LANDFILL_POINT_TOO_LARGE};
+    check_row("a kind", kinds, 2, 1, 1);
+    check_row("a climate", climates, 4, 1, 1);
+    check_row("a site class", classes, 4, 1, 1);
+    check_row("a waste type", types, 8, 1, 1);
+    check("the number of types", LANDFILL_TYPES == 8);
+    check_row("a refusal", refusals, 14, 0, 1);
+}
+
+static void check_sizes(void)
+{
+    check("a size", LANDFILL_LEDGER_BYTES == 136 && LANDFILL_RECORD_BYTES == 48 && LANDFILL_ANSWER_BYTES == 88);
+    check("the size of a line", LANDFILL_LINE_BYTES == 90);
+    check("a limit", LANDFILL_RECORDS == 1200 && LANDFILL_MASS_LIMIT == 1000000000);
+}
+
+static void check_places(void)
+{
+    static const int record[] = {LANDFILL_RECORD_AT_KIND, LANDFILL_RECORD_AT_CLIMATE, LANDFILL_RECORD_AT_FACTOR,
+                                 LANDFILL_RECORD_AT_OX, LANDFILL_RECORD_AT_F, LANDFILL_RECORD_AT_DOCF,
+                                 LANDFILL_RECORD_AT_CLASS, LANDFILL_RECORD_AT_GWP, LANDFILL_RECORD_AT_CAPTURED};
+    static const int out[] = {LANDFILL_OUT_AT_X0, LANDFILL_OUT_AT_FIGURE, LANDFILL_OUT_AT_BOUND, LANDFILL_OUT_AT_STOCK,
+                              LANDFILL_OUT_AT_BROUGHT};
+    static const int answer[] = {LANDFILL_ANSWER_AT_X0, LANDFILL_ANSWER_AT_FIGURE, LANDFILL_ANSWER_AT_BOUND};
+    check("the place of a period", LANDFILL_RECORD_AT_PERIOD == 0 && LANDFILL_OUT_AT_PERIOD == 0);
+    check_row("a place in a record", record, 9, 2, 1);
+    check("the place of the zeros or the masses", LANDFILL_RECORD_AT_ZERO == 12 && LANDFILL_RECORD_AT_MASSES == 16);
+    check("the place of kind or climate in an output record", LANDFILL_OUT_AT_KIND == 2 && LANDFILL_OUT_AT_CLIMATE == 3);
+    check("the place of the zeros in an output record", LANDFILL_OUT_AT_ZERO == 4);
+    check_row("a place in an output record", out, 5, 8, 8);
+    check("the place of the releases in an answer", LANDFILL_ANSWER_AT_RELEASES == 0);
+    check_row("a place in an answer", answer, 3, 64, 8);
+}
+
+/* Every field has bytes of its own: no two are alike. */
+static struct landfill_record all_fields(void)
+{
+    struct landfill_record it;
+    memset(&it, 0, sizeof it);
+    it.period = 0x0102;
+    it.kind = 3;
+    it.climate = 4;
+    it.factor = 5;
+    it.OX = 6;
+    it.F = 7;
+    it.DOCf = 8;
+    it.site_class = 9;
+    it.GWP = 10;
+    it.captured = 0x0b0c;
+    it.mass[LANDFILL_WOOD] = 0x11121314;
+    it.mass[LANDFILL_PAPER] = 0x21222324;
+    it.mass[LANDFILL_FOOD] = 0x31323334;
+    it.mass[LANDFILL_TEXTILES] = 0x41424344;
+    it.mass[LANDFILL_GARDEN] = 0x51525354;
+    it.mass[LANDFILL_INERT] = 0x61626364;
+    it.mass[LANDFILL_DOMESTIC_SLUDGE] = 0x71727374;
+    it.mass[LANDFILL_PAPER_SLUDGE] = 0x81828384;
+    return it;
+}
+
+static void check_record(void)
+{
+    static const uint8_t plain[48] = {
+        0x02, 0x01, 3,    4,    5,    6,    7,    8,    9,    10,   0x0c, 0x0b, 0,    0,    0,    0,
+        0x14, 0x13, 0x12, 0x11, 0x24, 0x23, 0x22, 0x21, 0x34, 0x33, 0x32, 0x31, 0x44, 0x43, 0x42, 0x41,
+        0x54, 0x53, 0x52, 0x51, 0x64, 0x63, 0x62, 0x61, 0x74, 0x73, 0x72, 0x71, 0x84, 0x83, 0x82, 0x81};
+    /* One more than fits: all bytes of the field are 255. */
+    static const uint8_t too_large[48] = {
+        255, 255, 255, 255, 255, 255, 255, 255, 255, 255, 255, 255, 0,   0,   0,   0,
+        255, 255, 255, 255, 255, 255, 255, 255, 255, 255, 255, 255, 255, 255, 255, 255,
+        255, 255, 255, 255, 255, 255, 255, 255, 255, 255, 255, 255, 255, 255, 255, 255};
+    uint8_t room[1 + LANDFILL_RECORD_BYTES + 1]; /* the record starts at an odd place */
+    struct landfill_record it = all_fields();
+    size_t type;
+    memset(room, 0xa5, sizeof room);
+    landfill_put_record(room + 1, &it);
+    check_bytes("landfill_put_record", room + 1, plain, sizeof plain);
+    check("a byte beside the record", room[0] == 0xa5 && room[sizeof room - 1] == 0xa5);
+
+    it.mass[0] = 1;
+    landfill_put_record(room + 1, &it);
+    check("the kind of a record with a mass of no type", room[1 + 2] == 0);
+    check_bytes("a record with a mass of no type", room + 1 + 3, plain + 3, sizeof plain - 3);
+
+    it.mass[0] = 0;
+    it.period = it.captured = 65536;
+    it.kind = it.climate = it.factor = it.OX = it.F = it.DOCf = it.site_class = it.GWP = 256;
+    for (type = 1; type <= LANDFILL_TYPES; type++) it.mass[type] = (uint64_t)1 << 32;
+    landfill_put_record(room + 1, &it);
+    check_bytes("a record with fields too large", room + 1, too_large, sizeof too_large);
+}
+
+static void check_numbers(void)
+{
+    static const uint8_t three[4] = {0x03, 0x02, 0x01, 0xa5}, eight[8] = {8, 7, 6, 5, 4, 3, 2, 1};
+    static const uint8_t full[4] = {255, 255, 255, 0xa5};
+    uint8_t bytes[8];
+    memset(bytes, 0xa5, sizeof bytes);
+    landfill_put(bytes, 3, 0x010203);
+    check_bytes("landfill_put of 3 bytes", bytes, three, sizeof three);
+    landfill_put(bytes, 3, 0x01000000);
+    check_bytes("landfill_put of a number too large", bytes, full, sizeof full);
+    landfill_put(bytes, 8, 0x0102030405060708u);
+    check_bytes("landfill_put of 8 bytes", bytes, eight, sizeof eight);
+    check("landfill_get", landfill_get(eight, 8) == 0x0102030405060708u && landfill_get(eight, 2) == 0x0708);
+    check("landfill_get of no byte", landfill_get(eight, 0) == 0);
+}
+
+static void check_output(void)
+{
+    /* The second year that docs/METHOD.md works by hand. */
+    static const uint8_t out[48] = {2,    0,    1,    2,    0,    0, 0, 0, 0xe4, 0x66, 0x23, 0x5a, 0x04, 0, 0, 0,
+                                    0xad, 0x56, 0x17, 0x05, 0,    0, 0, 0, 14,   0,    0,    0,    0,    0, 0, 0,
+                                    0x07, 0x4f, 0xe8, 0x65, 0x1c, 0, 0, 0, 0x80, 0xc3, 0x0f, 0xc5, 0x23, 0, 0, 0};
+    struct landfill_output it = landfill_get_output(out);
+    uint8_t answer[LANDFILL_ANSWER_BYTES];
+    unsigned type;
+    check("the head of an output record", it.period == 2 && it.kind == 1 && it.climate == 2);
+    check("x0 of an output record", it.x0 == 18692138724u);
+    check("figure and bound of an output record", it.figure == 85415597u && it.bound == 14);
+    check("the totals of an output record", it.stock == 121968807687u && it.brought == 153630000000u);
+
+    for (type = 0; type < sizeof answer; type++) answer[type] = (uint8_t)(type / 8);
+    for (type = 1; type <= LANDFILL_TYPES; type++)
+        check("landfill_get_release", landfill_get_release(answer, type) == 0x0101010101010101u * (type - 1));
+    check("the release of no type", landfill_get_release(answer, 0) == 0 && landfill_get_release(answer, 9) == 0);
+}
+
+static void check_kg(void)
+{
+    static const struct {
+        double tonnes, kg;
+    } rows[] = {{0.0, 0}, {-0.0, 0}, {2.01, 2010}, {0.001, 1}, {0.0004, 0}, {0.0005, 1}, {121.5, 121500},
+                {1000000.0, 1e9}, {1000000.001, 1000000001.0},
+                {-1.0, -1000.0}, {-0.0004, -0.4}, {2000000.0, 2e9}, {HUGE_VAL, HUGE_VAL}, {-HUGE_VAL, -HUGE_VAL}};
+    double no_number = landfill_kg(HUGE_VAL - HUGE_VAL);
+    size_t i;
+    for (i = 0; i < sizeof rows / sizeof rows[0]; i++) check("landfill_kg", landfill_kg(rows[i].tonnes) == rows[i].kg);
+    check("landfill_kg of what is no number", no_number != no_number);
+}
+
+static void check_text(unsigned refusal, const char *text)
+{
+    check("landfill_refusal_text", strcmp(landfill_refusal_text(refusal), text) == 0);
+}
+
+static void check_texts(void)
+{
+    unsigned refusal;
+    for (refusal = 0; refusal <= 13; refusal++) check("a text", strchr(landfill_refusal_text(refusal), '.') != NULL);
+    check_text(LANDFILL_ACCEPTED, "Accepted.");
+    check_text(LANDFILL_OUT_OF_TURN, "The period is not the next in turn.");
+    check_text(LANDFILL_POINT_TOO_LARGE, "Figure and bound are too large to be drawn exactly.");
+    check_text(14, "No refusal has this number.");
+    check_text((unsigned)-1, "No refusal has this number.");
+}
+
+int main(void)
+{
+    check_codes();
+    check_sizes();
+    check_places();
+    check_record();
+    check_numbers();
+    check_output();
+    check_kg();
+    check_texts();
+    return wrong;
+}

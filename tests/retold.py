@@ -1,0 +1,115 @@
+"""Document 01's step told a second time: the sources' tables as they stand there, and equation (1) of 000 in fractions.
+
+Row names, units and digits are the sources' own. Nothing here is taken from the reference, so that selftest.py sees
+a slip in a constant of either.
+"""
+from decimal import Context, Decimal
+from fractions import Fraction
+from math import floor
+
+# Source 001, parameter DOC_j, "Default values for DOC_j": % of wet waste. Of the sludges the same cell speaks in words.
+DOC = {
+    "Wood and wood products": "43",
+    "Pulp, paper and cardboard (other than sludge)": "40",
+    "Food, food waste, beverages and tobacco (other than sludge)": "15",
+    "Textiles": "24",
+    "Garden, yard and park waste": "20",
+    "Glass, plastic, metal, other inert waste": "0",
+    "industrial sludge": "9",
+    "domestic sludge": "5",
+}
+
+# Source 002, parameter k_i, 1/yr: boreal and temperate dry and wet, tropical dry and wet.
+RATES = {
+    "Pulp, paper, cardboard (other than sludge), textiles": ("0.04", "0.06", "0.045", "0.07"),
+    "Wood, wood products and straw": ("0.02", "0.03", "0.025", "0.035"),
+    "Other (non-food) organic putrescible garden and park waste": ("0.05", "0.10", "0.065", "0.17"),
+    "Food, food waste, sewage sludge, beverages and tobacco": ("0.06", "0.185", "0.085", "0.40"),
+    "sludge from pulp and paper industry": ("0.03", "0.03", "0.03", "0.03"),  # by a sentence of 000, table 7
+}
+
+# Source 000, data / parameter table 5: MCF_default of (a) to (d).
+MCF = {
+    "anaerobic managed solid waste disposal sites": "1.0",
+    "semi-aerobic managed solid waste disposal sites": "0.5",
+    "unmanaged solid waste disposal sites - deep": "0.8",
+    "unmanaged-shallow solid waste disposal sites or stockpiles that are considered SWDS": "0.4",
+}
+
+# The types of document 01 in its order: the row of DOC and the row of RATES, None where nothing decays.
+TYPES = (
+    ("Wood and wood products", "Wood, wood products and straw"),
+    ("Pulp, paper and cardboard (other than sludge)", "Pulp, paper, cardboard (other than sludge), textiles"),
+    (
+        "Food, food waste, beverages and tobacco (other than sludge)",
+        "Food, food waste, sewage sludge, beverages and tobacco",
+    ),
+    ("Textiles", "Pulp, paper, cardboard (other than sludge), textiles"),
+    ("Garden, yard and park waste", "Other (non-food) organic putrescible garden and park waste"),
+    ("Glass, plastic, metal, other inert waste", None),
+    ("domestic sludge", "Food, food waste, sewage sludge, beverages and tobacco"),
+    ("industrial sludge", "sludge from pulp and paper industry"),
+)
+
+PERIODS = {1: 1, 2: 12}  # in a year, by kind
+DIGITS = Context(prec=50)
+
+
+def carbon(masses):
+    """The carbon of eight masses in kg, in mg."""
+    return tuple(kg * 10**6 * Fraction(DOC[row]) / 100 for kg, (row, _) in zip(masses, TYPES, strict=True))
+
+
+def rates(climate):
+    """The decay rates k of the eight types, 1/yr; 0 where nothing decays."""
+    return tuple(Decimal(RATES[row][climate - 1] if row else 0) for _, row in TYPES)
+
+
+def correction(site_class):
+    """The methane correction factor of a site class."""
+    return Fraction(list(MCF.values())[site_class - 1])
+
+
+def entry(kind, k):
+    """e to the power -k for a year, -k/12 for a month, in billionths rounded down."""
+    return floor(DIGITS.exp(DIGITS.divide(-k, PERIODS[kind])).scaleb(9))
+
+
+def shares(record):
+    """What equation (1) leaves of a release, in the two stages of document 01."""
+    OX, F, DOCf = (Fraction(whole, 100) for whole in (record.OX, record.F, record.DOCf))
+    kept = Fraction(record.factor, 100) * (1 - Fraction(record.f, 10000))
+    return kept, (1 - OX) * F * DOCf * correction(record.site_class)
+
+
+def grams(record, carbon_mg):
+    """Carbon as grams CO2e: 16 of methane for each 12 of carbon."""
+    return carbon_mg * Fraction(16, 12) * record.GWP / 1000
+
+
+def exact_figure(record, release):
+    """Equation (1) for a release, with no rounding."""
+    kept, methane = shares(record)
+    return grams(record, release * kept * methane)
+
+
+def figure(record, x0):
+    """The same, rounded down after each stage."""
+    kept, methane = shares(record)
+    return floor(grams(record, floor(floor(x0 * kept) * methane)))
+
+
+def bound(record, n, T):
+    B = sum(n + 1 + floor(Fraction(n * t, 10**9)) for t in T if t)
+    return 3 + floor(grams(record, B))
+
+
+def step(ledger, record):
+    """T and R after an accepted record, the releases, x0, figure and bound."""
+    brought = carbon(record.masses)
+    T = tuple(map(sum, zip(ledger.T, brought)))
+    H = tuple(map(sum, zip(ledger.R, brought)))
+    kept = [Fraction(entry(record.kind, k) if k else 0, 10**9) for k in rates(record.climate)]
+    R = tuple(floor(h * part) for h, part in zip(H, kept))
+    G = tuple(h - r for h, r in zip(H, R))
+    return T, R, G, sum(G), figure(record, sum(G)), bound(record, ledger.n + 1, T)

@@ -1,0 +1,66 @@
+#!/usr/bin/env python3
+"""A test of the selftest: changes each number of the reference by one, up and down, and sees the selftest fail.
+
+  slips.py    names every change that goes unseen, then counts; status 1 where there is one (a minute)
+"""
+import ast
+import os
+import shutil
+import subprocess
+import sys
+import tempfile
+
+ROOT = os.path.join(os.path.dirname(os.path.abspath(__file__)), "..")
+FILE = os.path.join("tests", "reference.py")
+SAME = "range(16, (48 - 1), 4)"  # the one change that changes nothing
+
+
+def numbers(node):
+    """The numbers in a piece of the program; a power of two numbers, as 10**9, is one."""
+    if isinstance(node, ast.Constant) and type(node.value) is int:
+        yield node
+    elif isinstance(node, ast.BinOp) and isinstance(node.op, ast.Pow) and isinstance(node.right, ast.Constant):
+        yield node
+    else:
+        for part in ast.iter_child_nodes(node):
+            yield from numbers(part)
+
+
+def slips(lines):
+    """Each change: the place of its line, and the line as it then reads. What imports the modules is left as it is."""
+    body = ast.parse("\n".join(lines)).body
+    start = next(i for i, part in enumerate(body) if isinstance(part, ast.Assign))
+    for node in (node for part in body[start:] for node in numbers(part)):
+        line, first, last = lines[node.lineno - 1], node.col_offset, node.end_col_offset
+        for change in ("+ 1", "- 1"):
+            slip = f"{line[:first]}({line[first:last]} {change}){line[last:]}"
+            if SAME not in slip:
+                yield node.lineno - 1, slip
+
+
+def passes(copy, lines):
+    """Whether the selftest is content with these lines of the reference."""
+    with open(os.path.join(copy, FILE), "w", encoding="utf-8") as file:
+        file.write("\n".join(lines))
+    words = [sys.executable, "-B", os.path.join(copy, "tests", "selftest.py")]
+    return subprocess.run(words, capture_output=True, check=False).returncode == 0
+
+
+def main():
+    with open(os.path.join(ROOT, FILE), encoding="utf-8") as file:
+        lines = file.read().split("\n")
+    with tempfile.TemporaryDirectory() as copy:
+        for part in ("tests", "tools", "docs"):
+            shutil.copytree(os.path.join(ROOT, part), os.path.join(copy, part))
+        if not passes(copy, lines):
+            raise SystemExit("the selftest fails with nothing changed")
+        tried = list(slips(lines))
+        unseen = [(at, slip) for at, slip in tried if passes(copy, lines[:at] + [slip] + lines[at + 1 :])]
+    for at, slip in unseen:
+        print(f"NOT SEEN: {FILE}:{at + 1}: {slip.strip()}")
+    print(f"slips: {len(tried) - len(unseen)} seen, {len(unseen)} unseen")
+    return 1 if unseen else 0
+
+
+if __name__ == "__main__":
+    sys.exit(main())
