@@ -27,7 +27,7 @@ use Rattle.ledger.proofs.History.{acceptedTurn}
 use Rattle.promises.specs.Offering.{Offering, recordsIn}
 use Rattle.promises.specs.Exact.{inert, exactRelease, exactReleaseAt, exactFigure}
 use Rattle.promises.specs.Promises.{Chosen, WithinBound}
-use Rattle.promises.proofs.OneByOne.{withOne, OneByOne, none-yet, one-more, records-more, n-counts, conserved}
+use Rattle.promises.proofs.OneByOne.{OneByOne, none-yet, one-more, records-more, n-counts, conserved}
 use Rattle.promises.proofs.Stocks.{earlier, before, all-counted, Alike, alike-before, near, both-next}
 use Rattle.promises.proofs.Release.{Beside, beside-inert, beside-decaying}
 use Rattle.promises.proofs.Figure.{beside-sums, chain}

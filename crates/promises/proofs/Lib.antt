@@ -1,3 +1,4 @@
+pub mod Offering
 pub mod OneByOne
 pub mod Stock
 pub mod Stocks
@@ -8,3 +9,4 @@ pub mod WholeRun
 pub mod OneRun
 pub mod Worked
 pub mod Proved
+pub mod OneAnswer

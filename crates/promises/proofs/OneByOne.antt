@@ -1,13 +1,12 @@
 -- Whatever is offered, what comes of it is a fresh ledger and then accepted records, one after another: promises go by induction on
 -- these.
-use mathlib.Core.Path.{_≡_, refl, _∙_}
+use mathlib.Core.Path.{_≡_, refl}
 use mathlib.Core.Bool.{true}
-use mathlib.Core.List.{List, [], _∷_, _++_, map, map-append, append-nil, append-assoc}
-use Prim.Native.Nat.{ℕ, suc, _≤_, _<_}
+use mathlib.Core.List.{List, [], _∷_, _++_, map-append, append-nil, append-assoc}
+use Prim.Native.Nat.{ℕ, _≤_, _<_}
 use native.Mathlib.Numerals.{add-one}
 use native.Mathlib.Omega.{arith}
 use native.Mathlib.Decide.{ℕ-discrete}
-use borrow.Author.Tests.{eq-eqb, ne-eqb}
 use lib.ListN.{length, getD}
 use Rattle.numbers.proofs.Eight.{eight-at}
 use Rattle.numbers.proofs.Lists.{length-more, added-more}
@@ -16,14 +15,13 @@ use Rattle.waste.specs.Waste.{isClimate}
 use Rattle.record.specs.Fields.{depositOf}
 use Rattle.ledger.specs.Stock.{fresh, after}
 use Rattle.ledger.specs.Refusal.{refusalOf}
-use Rattle.ledger.specs.Take.{takeOf, acceptedOf, refusedOf}
-use Rattle.ledger.specs.History.{Offer, Turn, turnOf, turns, ledgerAfter, accepted}
+use Rattle.ledger.specs.History.{Offer, Turn}
 use Rattle.ledger.proofs.Accepted as step
 use Rattle.ledger.proofs.History.{acceptedTurn}
-use Rattle.ledger.proofs.Take.{taken, not-taken}
 use Rattle.ledger.proofs.Step.{brought-after, released, balanced}
 use Rattle.promises.specs.Offering.{Offering, offeringTo, offering, recordsIn}
 use Rattle.promises.specs.Promises.{Conserved}
+use Rattle.promises.proofs.Offering.{offering-ends, offering-goes-on, offering-passes-over}
 
 -- no record, and one accepted record more
 abbrev pub begun : Offering
@@ -36,37 +34,22 @@ pub data OneByOne : Offering → Type 0 where
   none-yet : OneByOne begun
   one-more : (o : Offering) (bytes : List ℕ) (room : ℕ) → OneByOne o → refusalOf (o .ledger) bytes room ≡ 0 → OneByOne (withOne o bytes)
 
--- some turns more
-abbrev onward : Offering → List Turn → Offering
-onward o all = record { ledger = ledgerAfter (o .ledger) all; accepted = o .accepted ++ accepted all }
+-- what comes of more offers, behind an offering
+abbrev onward : Offering → List Offer → Offering
+onward o offers =
+    record { ledger = offeringTo (o .ledger) offers .ledger; accepted = o .accepted ++ offeringTo (o .ledger) offers .accepted }
 
-module _ (o : Offering) (offer : Offer) (rest : List Offer) where
-  abbrev next : List Turn
-  next = turns (o .ledger) (offer ∷ rest)
-
-  goes-on : refusalOf (o .ledger) (offer .bytes) (offer .room) ≡ 0
-      → onward o next ≡ onward (withOne o (offer .bytes)) (turns (after (o .ledger) (offer .bytes)) rest)
-  unfolding turns ledgerAfter accepted acceptedOf
-  goes-on e = simp (taken (o .ledger) (offer .bytes) (offer .room) e, append-assoc)
-
-  passes-over : (refusalOf (o .ledger) (offer .bytes) (offer .room) ≡ 0 → ⊥) → onward o next ≡ onward o (turns (o .ledger) rest)
-  unfolding turns ledgerAfter accepted refusedOf
-  passes-over e =
-      simp (not-taken (o .ledger) (offer .bytes) (offer .room) e, ne-eqb (refusalOf (o .ledger) (offer .bytes) (offer .room)) 0 e)
-
-goes-one-by-one : (offers : List Offer) (o : Offering) → OneByOne o → OneByOne (onward o (turns (o .ledger) offers))
-unfolding turns ledgerAfter accepted
-goes-one-by-one [] o r = rw (append-nil (o .accepted)) r
+goes-one-by-one : (offers : List Offer) (o : Offering) → OneByOne o → OneByOne (onward o offers)
+goes-one-by-one [] o r = rw (offering-ends (o .ledger), append-nil (o .accepted)) r
 goes-one-by-one (offer ∷ rest) o r =
     elim (ℕ-discrete (refusalOf (o .ledger) (offer .bytes) (offer .room)) 0) [
       | yes e ↦
-          rw (goes-on o offer rest e)
-          (goes-one-by-one rest (withOne o (offer .bytes)) (one-more o (offer .bytes) (offer .room) r e))
-      | no e ↦ rw (passes-over o offer rest e) (goes-one-by-one rest o r)
+          rw (offering-goes-on (o .ledger) (offer .bytes) (offer .room) rest e)
+          (rw append-assoc at (goes-one-by-one rest (withOne o (offer .bytes)) (one-more o (offer .bytes) (offer .room) r e)))
+      | no e ↦ rw (offering-passes-over (o .ledger) (offer .bytes) (offer .room) rest e) (goes-one-by-one rest o r)
     ]
 
 pub one-by-one : (offers : List Offer) → OneByOne (offering offers)
-unfolding offeringTo
 one-by-one offers = goes-one-by-one offers begun none-yet
 
 pub records-more : (o : Offering) (bytes : List ℕ) → recordsIn (withOne o bytes) ≡ recordsIn o ++ (bytes ∷ [])

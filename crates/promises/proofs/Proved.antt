@@ -11,7 +11,6 @@ use Rattle.numbers.proofs.Eight.{both-true, every-at}
 use Rattle.numbers.specs.Fraction.{Fraction}
 use Rattle.decay.proofs.Laws.{stands-for-sums}
 use Rattle.waste.specs.Waste.{rateOf, climates, isClimate}
-use Rattle.record.specs.Fields.{periodOf}
 use Rattle.ledger.specs.Stock.{broughtAt, stockAt, entryAt, after}
 use Rattle.ledger.specs.Take.{takeOf, acceptedOf, outputFields}
 use Rattle.ledger.specs.declared.book.Ledger.{Ledger}

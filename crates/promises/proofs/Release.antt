@@ -12,7 +12,7 @@ use Rattle.numbers.specs.Fraction.{Fraction, over, whole, _⊕_, _⊖_, _≼_}
 use Rattle.numbers.specs.Lists.{added}
 use Rattle.numbers.proofs.Lists.{length-more}
 use Rattle.waste.specs.Waste.{carbonOf}
-use Rattle.record.specs.Fields.{massOf, depositOf}
+use Rattle.record.specs.Fields.{depositOf}
 use Rattle.figure.specs.Figure.{marginOf}
 use Rattle.ledger.specs.Stock.{broughtAt, stockAt, release, after}
 use Rattle.ledger.proofs.History.{acceptedTurn}

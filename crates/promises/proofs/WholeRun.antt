@@ -1,34 +1,25 @@
 -- A run takes a record exactly where offering it does, and hands on the same ledger and the same room, so both go side by side.
 use mathlib.Core.Path.{_≡_, refl, sym, ap, _∙_}
-use mathlib.Core.List.{List, [], _∷_, _++_, map}
-use Prim.Native.Nat.{ℕ, suc, _-_, _*_, _<_}
+use mathlib.Core.List.{List, [], _∷_, map}
+use Prim.Native.Nat.{ℕ, suc, _-_, _*_}
 use native.Mathlib.Decide.{ℕ-discrete}
 use native.Mathlib.Omega.{arith}
-use lib.ListN.{length, take, drop}
+use lib.ListN.{length, take}
 use Rattle.record.specs.Fields.{recordBytes}
+use Rattle.ledger.specs.Stock.{after}
 use Rattle.ledger.specs.Refusal.{refusalOf}
-use Rattle.ledger.specs.Take.{takeOf, acceptedOf}
-use Rattle.ledger.specs.History.{Offer, Turn, turns, ledgerAfter, accepted, outputs, recordsOf, inTurn, Run, runOf, outOf, outcomeOf}
+use Rattle.ledger.specs.Take.{acceptedOf}
+use Rattle.ledger.specs.History.{Turn, accepted, recordsOf, inTurn, Run, runOf, outOf, outcomeOf}
 use Rattle.ledger.specs.declared.book.Ledger.{Ledger}
-use Rattle.ledger.specs.declared.answer.Outcome.{Outcome}
-use Rattle.ledger.proofs.Take.{taken, take-refusal}
-use Rattle.ledger.proofs.History.{stopped, onFrom, acceptedTurn, run-goes-on, run-stops, run-ends, outputs-length}
+use Rattle.ledger.proofs.Take.{take-refusal}
+use Rattle.ledger.proofs.History.{onFrom, acceptedTurn, run-goes-on, run-stops, run-ends, outputs-length}
 use Rattle.promises.specs.Offering.{Offering, offeringTo, recordsIn}
-use Rattle.promises.specs.WholeRun.{leadingOffered, LeadingAccepted, LeadingEnds, none-left, next-refused, WholeRun}
+use Rattle.promises.specs.WholeRun.{LeadingEnds, none-left, next-refused, WholeRun}
+use Rattle.promises.proofs.Offering.{inFront, offering-ends, offering-goes-on}
 
 -- the offering that a run comes to
 abbrev comesTo : Run → Offering
 comesTo r = record { ledger = r .ledger; accepted = r .accepted }
-
--- an offer that is accepted, in front of others
-pub offering-goes-on : (l : Ledger) (bytes : List ℕ) (room : ℕ) (offers : List Offer) → refusalOf l bytes room ≡ 0
-    → offeringTo l (record { bytes = bytes; room = room } ∷ offers)
-    ≡ record {
-      ledger = offeringTo (acceptedOf l bytes .ledger) offers .ledger;
-      accepted = acceptedTurn l bytes ∷ offeringTo (acceptedOf l bytes .ledger) offers .accepted;
-    }
-unfolding offeringTo turns ledgerAfter accepted acceptedOf
-offering-goes-on l bytes room offers e = simp (taken l bytes room e)
 
 record Follows (l : Ledger) (records : List (List ℕ)) (room : ℕ) (r : Run) : Type 0 where
   many : length (take (length (r .accepted)) records) ≡ length (r .accepted)
@@ -46,19 +37,19 @@ ends-later bytes rest room turn r (next-refused some e h) =
     next-refused (omega arith) (rw left e) h
 
 follows : (l : Ledger) (records : List (List ℕ)) (room : ℕ) → Follows l records room (runOf l records room)
-unfolding inTurn outcomeOf offeringTo turns ledgerAfter accepted
-follows l [] room = rw (run-ends l room) (record { many = refl; these = refl; offered = refl; stop = none-left refl refl })
+unfolding inTurn outcomeOf acceptedOf
+follows l [] room = rw (run-ends l room) (record { many = refl; these = refl; offered = offering-ends l; stop = none-left refl refl })
 follows l (bytes ∷ rest) room =
     elim (ℕ-discrete (refusalOf l bytes room) 0) [
       | yes e ↦
-          let l′ = acceptedOf l bytes .ledger in
+          let l′ = after l bytes in
           let r = runOf l′ rest (room - recordBytes) in
           let f = follows l′ rest (room - recordBytes) in
           rw (run-goes-on l bytes rest room e)
           (record {
             many = ap suc (f .many);
             these = ap (λ (xs : List (List ℕ)). bytes ∷ xs) (f .these);
-            offered = offering-goes-on l bytes room (inTurn (take (length (r .accepted)) rest) (room - recordBytes)) e ∙ ap (λ (o : Offering). record { ledger = o .ledger; accepted = acceptedTurn l bytes ∷ o .accepted }) (f .offered);
+            offered = offering-goes-on l bytes room (inTurn (take (length (r .accepted)) rest) (room - recordBytes)) e ∙ ap (inFront (acceptedTurn l bytes)) (f .offered);
             stop = ends-later bytes rest room (acceptedTurn l bytes) r (f .stop);
           })
       | no e ↦
@@ -67,7 +58,7 @@ follows l (bytes ∷ rest) room =
           (record {
             many = refl;
             these = refl;
-            offered = refl;
+            offered = offering-ends l;
             stop = next-refused (omega arith) (rw none (sym (take-refusal l bytes room))) (omega (arith, e));
           })
     ]
