@@ -4,11 +4,11 @@ use mathlib.Core.List.{List, [], _∷_}
 use Prim.Native.Nat.{ℕ, zero, suc, _-_, _*_, _≤_}
 use native.Mathlib.Decide.{ℕ-discrete}
 use native.Mathlib.Omega.{arith}
-use lib.ListN.{length, take, drop, length-map}
+use lib.ListN.{length, getD, take, drop, length-map}
 use Rattle.record.specs.Fields.{recordBytes}
 use Rattle.ledger.specs.Stock.{after}
 use Rattle.ledger.specs.Refusal.{refusalOf}
-use Rattle.ledger.specs.Take.{acceptedOf}
+use Rattle.ledger.specs.Take.{takeOf, acceptedOf}
 use Rattle.ledger.specs.History.{recordsOf, inTurn, runOf, outOf, outcomeOf}
 use Rattle.ledger.specs.declared.book.Ledger.{Ledger}
 use Rattle.ledger.specs.declared.answer.Outcome.{Outcome}
@@ -45,8 +45,7 @@ ends-sooner : (bytes : List ℕ) (rest : List (List ℕ)) (room : ℕ) (l : Ledg
     → LeadingEnds rest (room - recordBytes) (outcome l k q)
 ends-sooner bytes rest room l k q (none-left all z) = none-left (omega arith) z
 ends-sooner bytes rest room l k q (next-refused some e h) =
-    let left : room - recordBytes - recordBytes * k ≡ room - recordBytes * suc k = omega arith in
-    next-refused (omega arith) (rw left e) h
+    next-refused (omega arith) (e ∙ ap (λ (left : ℕ). takeOf l (getD rest k []) left .refusal) (omega arith)) (omega arith)
 
 accepted-sooner : (bytes : List ℕ) (rest : List (List ℕ)) (room : ℕ) (l l′ : Ledger) (k q : ℕ) → refusalOf l bytes room ≡ 0
     → LeadingAccepted l (bytes ∷ rest) room (outcome l′ (suc k) q) → LeadingAccepted (after l bytes) rest (room - recordBytes) (outcome l′ k q)
@@ -83,5 +82,5 @@ only-run (bytes ∷ rest) l room l′ (suc k) q a ends =
 pub one-run : (l : Ledger) (file out : List ℕ) (answer : Outcome) (left : List ℕ) → WholeRun l file out answer left
     → (answer ≡ outcomeOf (runOf l (recordsOf file) (length out))) × (left ≡ outOf (runOf l (recordsOf file) (length out)) out)
 one-run l file out answer left w =
-    let same = only-run (recordsOf file) l (length out) (answer .ledger) (answer .accepted) (answer .refusal) (w .begins) (w .ends) in
+    let same = only-run (recordsOf file) l (length out) (answer .ledger) (answer .accepted) (answer .refusal) (w .begins) (w .stops) in
     (same, (rw same at (w .output-after)) ∙ sym (whole-run l file out .output-after))

@@ -95,7 +95,7 @@ unfolding outputFields acceptedOf after
 output-head l bytes room e =
     let zero = sym (take-refusal l bytes room) ∙ e in
     rw (taken l bytes room zero)
-    (record { own-period = sym (step.accepted l bytes room zero .period); own-kind = refl; own-climate = refl })
+    (record { own-period = omega (arith, step.accepted l bytes room zero .period); own-kind = refl; own-climate = refl })
 
 pub promises : Promises
 promises =

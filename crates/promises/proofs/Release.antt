@@ -38,8 +38,8 @@ module _ (X X′ : Fraction) (n T R x R′ G : ℕ) (near : NearExact X n T R) (
       let whole-part = ap (λ (y : ℕ). y * both) makes in
       let margin = mul-le-mul-right both room in
       record {
-        above = omega (arith, whole-part, margin, mul-le-mul-right (X′ .den) (near .low), mul-le-mul-right (X .den) high′);
-        below = omega (arith, whole-part, margin, mul-le-mul-right (X .den) (near′ .low), mul-le-mul-right (X′ .den) high);
+        above = omega (arith, whole-part, margin, mul-le-mul-right (X′ .den) (near .stock-below), mul-le-mul-right (X .den) high′);
+        below = omega (arith, whole-part, margin, mul-le-mul-right (X .den) (near′ .stock-below), mul-le-mul-right (X′ .den) high);
       }
 
   -- which is 0 where nothing was ever brought
@@ -50,12 +50,12 @@ module _ (X X′ : Fraction) (n T R x R′ G : ℕ) (near : NearExact X n T R) (
         | yes z ↦
             let no-T : T ≡ 0 = omega arith in
             simp (eq-eqb (T + x) 0 z)
-            (beside-by 0 0 (omega (arith, near .most, ap (λ (y : ℕ). y * X .den) no-T)) (omega (arith, near′ .most, ap (λ (y : ℕ). y * X′ .den) z)) (omega arith))
+            (beside-by 0 0 (omega (arith, near .exact-most, ap (λ (y : ℕ). y * X .den) no-T)) (omega (arith, near′ .exact-most, ap (λ (y : ℕ). y * X′ .den) z)) (omega arith))
         | no z ↦
             let grown : 10 ^ 9 * n + n * T ≤ 10 ^ 9 * suc n + suc n * (T + x) = omega arith in
             simp (ne-eqb (T + x) 0 z)
             (beside-by (10 ^ 9 * suc n + suc n * (T + x)) (suc n + 1 + suc n * (T + x) / 10 ^ 9)
-            (omega (arith, near .high, mul-le-mul-right (X .den) grown)) (near′ .high) (omega arith))
+            (omega (arith, near .short-at-most, mul-le-mul-right (X .den) grown)) (near′ .short-at-most) (omega arith))
       ]
 
 -- Inert waste brings no carbon, and so has none to release or to keep.

@@ -88,7 +88,7 @@ pub near : (L : Ledger) (t : ℕ) (d : Fraction) → t < 8 → StandsFor (entryA
     → OneByOne o → Alike L o → NearAt d o t
 unfolding fresh exactStock total after
 near L t d place stands _ none-yet alike =
-    rw (eight-at (λ _. 0) t place) (record { low = omega arith; high = omega arith; most = omega arith; left = omega arith })
+    rw (eight-at (λ _. 0) t place) (record { stock-below = omega arith; short-at-most = omega arith; exact-most = omega arith; stock-most = omega arith })
 near L t d place stands _ (one-more o bytes room r e) alike =
     let same = alike (rw (length-more (o .accepted) (acceptedTurn (o .ledger) bytes)) (omega arith)) in
     let here : StandsFor (entryAt (kindOf bytes) (climateOf bytes) t) d = rw (same .0, same .1) at stands in

@@ -4,11 +4,11 @@ use mathlib.Core.List.{List, [], _∷_, map}
 use Prim.Native.Nat.{ℕ, suc, _-_, _*_}
 use native.Mathlib.Decide.{ℕ-discrete}
 use native.Mathlib.Omega.{arith}
-use lib.ListN.{length, take}
+use lib.ListN.{length, getD, take}
 use Rattle.record.specs.Fields.{recordBytes}
 use Rattle.ledger.specs.Stock.{after}
 use Rattle.ledger.specs.Refusal.{refusalOf}
-use Rattle.ledger.specs.Take.{acceptedOf}
+use Rattle.ledger.specs.Take.{takeOf, acceptedOf}
 use Rattle.ledger.specs.History.{Turn, accepted, recordsOf, inTurn, Run, runOf, outOf, outcomeOf}
 use Rattle.ledger.specs.declared.book.Ledger.{Ledger}
 use Rattle.ledger.proofs.Take.{take-refusal}
@@ -31,10 +31,10 @@ record Follows (l : Ledger) (records : List (List ℕ)) (room : ℕ) (r : Run) :
 ends-later : (bytes : List ℕ) (rest : List (List ℕ)) (room : ℕ) (turn : Turn) (r : Run)
     → LeadingEnds rest (room - recordBytes) (outcomeOf r) → LeadingEnds (bytes ∷ rest) room (outcomeOf (onFrom (turn ∷ []) r))
 unfolding outcomeOf
-ends-later bytes rest room turn r (none-left all zero) = none-left (ap suc all) zero
+ends-later bytes rest room turn r (none-left all zero) = none-left (omega (arith, all)) zero
 ends-later bytes rest room turn r (next-refused some e h) =
-    let left : room - recordBytes * suc (length (r .accepted)) ≡ room - recordBytes - recordBytes * length (r .accepted) = omega arith in
-    next-refused (omega arith) (rw left e) h
+    let k = length (r .accepted) in
+    next-refused (omega arith) (e ∙ ap (λ (left : ℕ). takeOf (r .ledger) (getD rest k []) left .refusal) (omega arith)) (omega arith)
 
 follows : (l : Ledger) (records : List (List ℕ)) (room : ℕ) → Follows l records room (runOf l records room)
 unfolding inTurn outcomeOf acceptedOf
@@ -53,13 +53,12 @@ follows l (bytes ∷ rest) room =
             stop = ends-later bytes rest room (acceptedTurn l bytes) r (f .stop);
           })
       | no e ↦
-          let none : room - recordBytes * 0 ≡ room = omega arith in
           rw (run-stops l bytes rest room (refusalOf l bytes room) refl e)
           (record {
             many = refl;
             these = refl;
             offered = offering-ends l;
-            stop = next-refused (omega arith) (rw none (sym (take-refusal l bytes room))) (omega (arith, e));
+            stop = next-refused (omega arith) (sym (take-refusal l bytes room) ∙ ap (λ (left : ℕ). takeOf l bytes left .refusal) (omega arith)) (omega (arith, e));
           })
     ]
 
@@ -72,10 +71,10 @@ whole-run l file out =
     record {
       begins =
           record {
-            so-many = f .many;
+            so-many = omega (arith, f .many);
             every-one = ap recordsIn (f .offered) ∙ f .these;
             ledger-after = sym (ap (λ (o : Offering). o .ledger) (f .offered));
           };
-      ends = f .stop;
+      stops = f .stop;
       output-after = rw (f .offered, outputs-length (r .accepted));
     }

@@ -39,6 +39,6 @@ module _ (records : List (List ℕ)) (room : ℕ) (answer : Outcome) where
 -- So of a file and an output, and what is left in the output: output record i starts at 48 × (i − 1), and the rest keeps its value.
 pub record WholeRun (l : Ledger) (file out : List ℕ) (answer : Outcome) (left : List ℕ) : Type 0 where
   pub begins : LeadingAccepted l (recordsOf file) (length out) answer
-  pub ends : LeadingEnds (recordsOf file) (length out) answer
+  pub stops : LeadingEnds (recordsOf file) (length out) answer
   pub output-after : left ≡ outputs (leadingOffered l (recordsOf file) (length out) answer .accepted)
       ++ drop (recordBytes * answer .accepted) out
