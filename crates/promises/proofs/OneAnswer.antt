@@ -9,6 +9,7 @@ pub mod Output
 pub mod Figure
 pub mod Ledger
 pub mod Door
+pub mod Line
 
 infixr 4 _&_
 -- A result r and the buffers s at exit, with what they say of the answer: the same for any two answers that a contract allows.

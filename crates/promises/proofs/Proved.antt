@@ -1,24 +1,29 @@
 -- The promises, proved.
-use mathlib.Core.Path.{_≡_, refl, sym, _∙_}
+use mathlib.Core.Path.{_≡_, refl, sym, ap, _∙_}
 use mathlib.Core.Bool.{Bool, true, false, _&&_, _||_}
 use mathlib.Core.List.{List}
-use Prim.Native.Nat.{ℕ, _+_, _-_, _≤_, _<_}
+use Prim.Native.Nat.{ℕ, _+_, _-_, _*_, _≤_, _<_}
 use native.Mathlib.Omega.{arith}
 use borrow.Author.Tests.{eqb-true, leb-true}
 use lib.Dec.{leb}
+use lib.ListN.{length}
 use Rattle.numbers.specs.Eight.{everyOf}
 use Rattle.numbers.proofs.Eight.{both-true, every-at}
 use Rattle.numbers.specs.Fraction.{Fraction}
 use Rattle.decay.proofs.Laws.{stands-for-sums}
 use Rattle.waste.specs.Waste.{rateOf, climates, isClimate}
-use Rattle.ledger.specs.Stock.{broughtAt, stockAt, entryAt, after}
+use Rattle.record.specs.Fields.{recordBytes}
+use Rattle.ledger.specs.Stock.{fresh, broughtAt, stockAt, entryAt, after}
 use Rattle.ledger.specs.Take.{takeOf, acceptedOf, outputFields}
+use Rattle.ledger.specs.History.{recordsOf, runOf}
 use Rattle.ledger.specs.declared.book.Ledger.{Ledger}
 use Rattle.ledger.proofs.Accepted as step
 use Rattle.ledger.proofs.Take.{taken, take-refusal}
+use Rattle.ledger.proofs.History.{run-roomy}
+use Rattle.line.specs.Listing.{answerText, runText, wholeRun, listingOf}
 use Rattle.promises.specs.Offering.{Offering, offering, recordsIn}
 use Rattle.promises.specs.Exact.{inert, exactStockAt}
-use Rattle.promises.specs.Promises.{NoCarbon, Chosen, CloseTo, sums, DemandThree, OwnHead, Promises}
+use Rattle.promises.specs.Promises.{NoCarbon, Chosen, CloseTo, sums, DemandThree, SaysOwn, Promises}
 use Rattle.promises.proofs.OneByOne.{OneByOne, one-by-one, n-counts, codes, conserved}
 use Rattle.promises.proofs.Stocks.{close}
 use Rattle.promises.proofs.Release.{nothing-brought}
@@ -90,12 +95,20 @@ module _ (o : Offering) (r : OneByOne o) where
       }
 
 -- An accepted record has the period n + 1, and its kind and climate become the ledger's.
-output-head : (l : Ledger) (bytes : List ℕ) (room : ℕ) → takeOf l bytes room .refusal ≡ 0 → OwnHead bytes (outputFields (takeOf l bytes room))
-unfolding outputFields acceptedOf after
-output-head l bytes room e =
+says-own : (l : Ledger) (bytes : List ℕ) (room : ℕ) → takeOf l bytes room .refusal ≡ 0 → SaysOwn bytes (takeOf l bytes room)
+unfolding outputFields acceptedOf after answerText
+says-own l bytes room e =
     let zero = sym (take-refusal l bytes room) ∙ e in
+    let period = step.accepted l bytes room zero .period in
     rw (taken l bytes room zero)
-    (record { own-period = omega (arith, step.accepted l bytes room zero .period); own-kind = refl; own-climate = refl })
+    (record { own-period = omega (arith, period); own-kind = refl; own-climate = refl; own-line = rw period })
+
+-- Room for every output record is all the room that matters.
+listing-of-run : (file : List ℕ) (room : ℕ) → recordBytes * length (recordsOf file) ≤ room
+    → listingOf file ≡ runText 1 (runOf fresh (recordsOf file) room)
+unfolding listingOf wholeRun
+listing-of-run file room h =
+    ap (runText 1) (run-roomy fresh (recordsOf file) (recordBytes * length (recordsOf file)) room (omega arith) h)
 
 pub promises : Promises
 promises =
@@ -105,6 +118,7 @@ promises =
           (λ s. (omega (arith, s .from), omega (arith, s .upTo)), λ h. record { from = omega (arith, h .0); upTo = omega (arith, h .1) });
       whole-run = whole-run;
       one-run = one-run;
-      output-head = output-head;
+      says-own = says-own;
+      listing-of-run = listing-of-run;
       worked-figures = worked;
     }

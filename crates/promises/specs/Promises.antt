@@ -12,13 +12,15 @@ use Rattle.numbers.specs.Fraction.{Fraction, over, whole, _⊕_, _≼_, _≺_}
 use Rattle.numbers.specs.Lists.{added, Each}
 use Rattle.decay.specs.Series.{E, StandsFor, exponent}
 use Rattle.waste.specs.Waste.{rateOf}
-use Rattle.record.specs.Fields.{periodOf, kindOf, climateOf, depositOf}
-use Rattle.output.specs.declared.Output.{Output}
-use Rattle.ledger.specs.Stock.{broughtAt, stockAt, entryAt}
-use Rattle.ledger.specs.Take.{takeOf, outputFields}
+use Rattle.record.specs.Fields.{recordBytes, periodOf, kindOf, climateOf, depositOf}
+use Rattle.ledger.specs.Stock.{fresh, broughtAt, stockAt, entryAt}
+use Rattle.ledger.specs.Take.{takeOf, totalStock, outputFields}
 use Rattle.ledger.specs.History.{Offer, Turn, recordsOf, runOf, outOf, outcomeOf}
 use Rattle.ledger.specs.declared.book.Ledger.{Ledger}
+use Rattle.ledger.specs.declared.answer.Answer.{Answer}
 use Rattle.ledger.specs.declared.answer.Outcome.{Outcome}
+use Rattle.line.specs.Line.{acceptedText}
+use Rattle.line.specs.Listing.{answerText, runText, listingOf}
 use Rattle.promises.specs.Offering.{Offering, offering, recordsIn}
 use Rattle.promises.specs.Exact.{inert, exactStockAt, exactFigure}
 use Rattle.promises.specs.WholeRun.{WholeRun}
@@ -76,11 +78,12 @@ pub record DemandThree (o : Offering) : Type 0 where
   -- 'The two sums enclose the true exponential': every longer sum is such a fraction too.
   pub sums-chosen : (m : ℕ) → 15 ≤ m → 1 ≤ o .ledger .n → Chosen (o .ledger) (sums (o .ledger) m)
 
--- What an output record says in its head is the record's own.
-pub record OwnHead (bytes : List ℕ) (says : Output) : Type 0 where
-  pub own-period : says .period ≡ periodOf bytes
-  pub own-kind : says .kind ≡ kindOf bytes
-  pub own-climate : says .climate ≡ climateOf bytes
+-- What an accepted record's output record and line say first is the record's own.
+pub record SaysOwn (bytes : List ℕ) (a : Answer) : Type 0 where
+  pub own-period : outputFields a .period ≡ periodOf bytes
+  pub own-kind : outputFields a .kind ≡ kindOf bytes
+  pub own-climate : outputFields a .climate ≡ climateOf bytes
+  pub own-line : answerText a ≡ acceptedText (periodOf bytes) (a .x0) (a .figure) (a .bound) (totalStock (a .ledger))
 
 pub record Promises : Type 0 where
   -- 'Start a fresh ledger and offer any list of records, passing over refused ones.'
@@ -94,8 +97,11 @@ pub record Promises : Type 0 where
   -- No other answer, and no other output, meets that.
   pub one-run : (l : Ledger) (file out : List ℕ) (answer : Outcome) (left : List ℕ) → WholeRun l file out answer left
       → (answer ≡ outcomeOf (runOf l (recordsOf file) (length out))) × (left ≡ outOf (runOf l (recordsOf file) (length out)) out)
-  -- 'The output record [..]: bytes 0-1 period, 2 kind, 3 climate', those of the accepted record.
-  pub output-head : (l : Ledger) (bytes : List ℕ) (room : ℕ) → takeOf l bytes room .refusal ≡ 0
-      → OwnHead bytes (outputFields (takeOf l bytes room))
+  -- 'The output record [..]: bytes 0-1 period, 2 kind, 3 climate', and the line 'for each accepted one: period, x0, ..'
+  pub says-own : (l : Ledger) (bytes : List ℕ) (room : ℕ) → takeOf l bytes room .refusal ≡ 0 → SaysOwn bytes (takeOf l bytes room)
+  -- 'The listing program [..] prints for each accepted one [..]. At a refusal it prints [..] the record's place, and stops': the
+  -- listing of a file is that of its run, whatever room for output records the run has, if it is enough for all.
+  pub listing-of-run : (file : List ℕ) (room : ℕ) → recordBytes * length (recordsOf file) ≤ room
+      → listingOf file ≡ runText 1 (runOf fresh (recordsOf file) room)
   -- 'P1 to P10 are one table proved with a single statement from the definitions'
   pub worked-figures : allOf (map holds rows) ≡ true
