@@ -9,7 +9,8 @@ use borrow.Author.Tests.{eq-eqb, ne-eqb}
 use lib.ListN.{length, take, drop, length-drop, length-append}
 use lib.Seq.{take-append-le, drop-append-le, take-all}
 use Rattle.record.specs.Fields.{recordBytes}
-use Rattle.ledger.specs.Stock.{mostRecords, after}
+use Rattle.stock.specs.Stock.{mostRecords}
+use Rattle.ledger.specs.Stock.{after}
 use Rattle.ledger.specs.Refusal.{refusalOf}
 use Rattle.ledger.specs.Take.{acceptedOf, takeOf, outputRecord}
 use Rattle.ledger.specs.History.{Offer, Turn, turnOf, turns, ledgerAfter, isAccepted, leading, ending, outputs, cut, recordsOf, inTurn, Run, runOf}

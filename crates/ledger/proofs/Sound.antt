@@ -1,10 +1,10 @@
 -- What a sound ledger holds of each type, and that a ledger of which all that holds is sound.
 use mathlib.Core.Path.{_≡_, refl, sym, _∙_}
-use mathlib.Core.Bool.{Bool, true, false, cond, _&&_, and-true, and-assoc}
+use mathlib.Core.Bool.{Bool, true, false, cond, _&&_, and-true, and-false, and-assoc}
 use mathlib.Core.List.{List, [], _∷_}
 use Prim.Native.Nat.{ℕ, zero, suc, _+_, _*_, _^_, _≤_, _<_}
 use native.Mathlib.Decide.{ℕ-discrete}
-use native.Mathlib.Nat.{mul-le-mul, zero-mul}
+use native.Mathlib.Nat.{zero-mul}
 use native.Mathlib.Omega.{arith}
 use borrow.Author.Tests.{eq-eqb, ne-eqb, le-leb, leb-true, eqb-true}
 use lib.Dec.{eqb, leb, leb·suc-zero, eqb·suc-zero}
@@ -12,10 +12,11 @@ use lib.ListN.{getD}
 use Rattle.numbers.specs.Eight.{everyOf, allOf}
 use Rattle.numbers.proofs.Eight.{both-true, all-true, every-at, every-each, every-same}
 use Rattle.decay.specs.Series.{isKind}
-use Rattle.waste.specs.Waste.{massLimit, mostCarbon, carbonOf, isClimate}
-use Rattle.waste.proofs.Laws.{carbon-most}
-use Rattle.ledger.specs.Stock.{mostRecords, mostBrought, broughtAt, stockAt}
-use Rattle.ledger.specs.Refusal.{sound, allZero, inOrder, emptyAt, withinAt, ceilingOf}
+use Rattle.waste.specs.Waste.{isClimate}
+use Rattle.stock.specs.Stock.{mostRecords, mostBrought, ceilingOf, withinOf}
+use Rattle.stock.proofs.Laws.{ceiling-most}
+use Rattle.ledger.specs.Stock.{broughtAt, stockAt}
+use Rattle.ledger.specs.Refusal.{sound, allZero, inOrder, emptyAt, withinAt}
 use Rattle.ledger.specs.declared.book.Ledger.{Ledger}
 
 -- Of each type R is at most T, and T at most its ceiling, which is at most that of wood.
@@ -23,13 +24,6 @@ pub record WithinCeiling (l : Ledger) (t : ℕ) : Type 0 where
   pub kept : stockAt l t ≤ broughtAt l t
   pub ceiling : broughtAt l t ≤ ceilingOf (l .n) t
   pub small : broughtAt l t ≤ mostBrought
-
-ceiling-most : (n t : ℕ) → n ≤ mostRecords → ceilingOf n t ≤ mostBrought
-unfolding ceilingOf
-ceiling-most n t h =
-    let m : n * massLimit * carbonOf (t + 1) ≤ mostRecords * massLimit * mostCarbon
-    = mul-le-mul {n₂ = mostRecords * massLimit} {m₂ = mostCarbon} (omega arith) (carbon-most (t + 1)) in
-    omega arith
 
 within : (l : Ledger) (t : ℕ) → l .n ≤ mostRecords → stockAt l t ≤ broughtAt l t → broughtAt l t ≤ ceilingOf (l .n) t → WithinCeiling l t
 within l t few kept high = record { kept = kept; ceiling = high; small = omega (arith, ceiling-most (l .n) t few) }
@@ -55,7 +49,7 @@ empty l few z e =
 
 -- a ledger with some
 ordered : (l : Ledger) → l .n ≤ mostRecords → inOrder l ≡ true → Sound l
-unfolding inOrder withinAt
+unfolding inOrder withinAt withinOf
 ordered l few e =
     let p = all-true (isKind (l .kind) ∷ isClimate (l .climate) ∷ everyOf (withinAt l) 8 ∷ []) e in
     let at : (t : ℕ) → t < 8 → (leb (broughtAt l t) (ceilingOf (l .n) t) ≡ true) × (leb (stockAt l t) (broughtAt l t) ≡ true)
@@ -79,7 +73,7 @@ sound-is l e =
 -- A ledger with records, in order, is sound.
 pub is-sound : (l : Ledger) → l .n ≤ mostRecords → (l .n ≡ 0 → ⊥) → isKind (l .kind) ≡ true → isClimate (l .climate) ≡ true
     → ((t : ℕ) → t < 8 → (stockAt l t ≤ broughtAt l t) × (broughtAt l t ≤ ceilingOf (l .n) t)) → sound l ≡ true
-unfolding sound inOrder withinAt
+unfolding sound inOrder withinAt withinOf
 is-sound l few some kind climate at =
     let every : everyOf (withinAt l) 8 ≡ true
     = every-each (withinAt l) 8 (λ t h. simp (le-leb (broughtAt l t) (ceilingOf (l .n) t) (at t h .1), le-leb (stockAt l t) (broughtAt l t) (at t h .0))) in
@@ -92,14 +86,25 @@ none-within zero (suc R) = simp (leb·suc-zero, eqb·suc-zero)
 none-within (suc T) R = simp (leb·suc-zero, eqb·suc-zero)
 
 same : (l : Ledger) (t : ℕ) → l .n ≡ 0 → withinAt l t ≡ emptyAt l t
-unfolding withinAt emptyAt ceilingOf
+unfolding withinAt withinOf emptyAt ceilingOf
 same l t z = simp (z, zero-mul) (none-within (broughtAt l t) (stockAt l t))
 
-pub sound-tests : (l : Ledger) → l .n ≤ mostRecords
-    → sound l ≡ (cond (eqb (l .n) 0) (eqb (l .kind) 0 && eqb (l .climate) 0) (isKind (l .kind) && isClimate (l .climate)) && everyOf (withinAt l) 8)
-unfolding sound allZero inOrder
-sound-tests l few =
-    elim (ℕ-discrete (l .n) 0) [
-      | yes z ↦ simp (le-leb (l .n) mostRecords few, eq-eqb (l .n) 0 z, every-same (withinAt l) (emptyAt l) 8 (λ t h. same l t z), and-true, ← and-assoc)
-      | no z ↦ simp (le-leb (l .n) mostRecords few, ne-eqb (l .n) 0 z, and-true, ← and-assoc)
-    ]
+module _ (l : Ledger) where
+  abbrev codes : Bool
+  codes = cond (eqb (l .n) 0) (eqb (l .kind) 0 && eqb (l .climate) 0) (isKind (l .kind) && isClimate (l .climate))
+
+  -- the codes, and what every type may have, whatever n is
+  with-codes : sound l ≡ (leb (l .n) mostRecords && (codes && everyOf (withinAt l) 8))
+  unfolding sound allZero inOrder
+  with-codes =
+      elim (ℕ-discrete (l .n) 0) [
+        | yes z ↦ simp (eq-eqb (l .n) 0 z, every-same (withinAt l) (emptyAt l) 8 (λ t h. same l t z), and-true, ← and-assoc)
+        | no z ↦ simp (ne-eqb (l .n) 0 z, and-true, ← and-assoc)
+      ]
+
+  pub sound-tests : sound l ≡ (codes && (leb (l .n) mostRecords && everyOf (withinAt l) 8))
+  sound-tests = with-codes ∙ turned (leb (l .n) mostRecords) codes (everyOf (withinAt l) 8)
+    where
+      turned : (a b c : Bool) → (a && (b && c)) ≡ (b && (a && c))
+      turned true b c = refl
+      turned false b c = sym (and-false b)

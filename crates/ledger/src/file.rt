@@ -3,12 +3,11 @@ ghost use mathlib.Core.Path.{_≡_};
 ghost use lib.ListN.{length, take};
 ghost use Rattle.numbers.specs.Eight.{eight};
 ghost use Rattle.record.specs.Fields.{kindOf, climateOf};
-ghost use Rattle.ledger.specs.Stock.{entryAt};
+ghost use Rattle.stock.specs.Stock.{entryAt};
 ghost use Rattle.ledger.specs.Refusal.{refusalOf};
 ghost use Rattle.ledger.specs.History.{recordsOf, runOf, outcomeOf, outOf};
 use crate::answer::Outcome;
 use crate::book::Ledger;
-use crate::stock;
 
 // How many records were accepted, and the refusal of the next one.
 struct End(u64, u8);

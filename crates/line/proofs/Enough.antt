@@ -7,7 +7,8 @@ use native.Mathlib.Omega.{arith}
 use borrow.Author.Tests.{le-leb, lt-leb}
 use lib.ListN.{length, length-append}
 use Rattle.record.specs.Fields.{recordBytes}
-use Rattle.ledger.specs.Stock.{mostRecords, fresh}
+use Rattle.stock.specs.Stock.{mostRecords}
+use Rattle.ledger.specs.Stock.{fresh}
 use Rattle.ledger.specs.History.{recordsOf, Run, runOf}
 use Rattle.ledger.proofs.History.{records-join, run-refused, run-roomy, Counts, run-counts}
 use Rattle.line.specs.Listing.{runText, wholeRun, listingOf, mostLines, roomFor}

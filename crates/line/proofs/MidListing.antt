@@ -8,7 +8,8 @@ use borrow.Author.Tests.{eq-eqb, ne-eqb, le-leb, lt-leb}
 use lib.ListN.{length, take, drop, length-drop, length-append, length-take, take-append-drop, drop-of-length-le}
 use lib.Seq.{length-take-le, take-at, drop-at, drop-drop, take-all, sets-eq}
 use Rattle.record.specs.Fields.{recordBytes}
-use Rattle.ledger.specs.Stock.{mostRecords, fresh}
+use Rattle.stock.specs.Stock.{mostRecords}
+use Rattle.ledger.specs.Stock.{fresh}
 use Rattle.ledger.specs.History.{outputs, recordsOf, Run, runOf, outOf}
 use Rattle.ledger.specs.declared.book.Ledger.{Ledger}
 use Rattle.ledger.proofs.History.{no-records, records-join, records-count, onFrom, run-ends, run-join, run-refused, run-roomy, Counts, run-counts, run-most, outputs-length}

@@ -8,7 +8,8 @@ use lib.Dec.{eqb, leb}
 use lib.ListN.{length, take, drop}
 use Rattle.numbers.specs.Bytes.{numberAt}
 use Rattle.record.specs.Fields.{recordBytes}
-use Rattle.ledger.specs.Stock.{mostRecords, fresh}
+use Rattle.stock.specs.Stock.{mostRecords}
+use Rattle.ledger.specs.Stock.{fresh}
 use Rattle.ledger.specs.Take.{totalStock}
 use Rattle.ledger.specs.History.{Turn, recordsOf, Run, runOf}
 use Rattle.ledger.specs.declared.answer.Answer.{Answer}

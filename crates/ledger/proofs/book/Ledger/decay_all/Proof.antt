@@ -1,12 +1,54 @@
--- Each type by itself.
+-- Each type by itself; eight releases of a sound ledger add up to less than 64 bits hold.
+use mathlib.Core.Path.{_≡_, ap}
+use Prim.Native.Nat.{ℕ, _+_, _*_, _≤_, _<_}
+use native.Mathlib.Nat.{zero-add}
 use native.Mathlib.Omega.{arith}
 use borrow.Author.Needs.{needs}
+use Rattle.stock.specs.Stock.{mostBrought}
+use Rattle.ledger.specs.Stock.{decayedAt, x0Of, periodOfAll}
+use Rattle.ledger.specs.declared.period.Decayed.{Decayed}
+use Rattle.ledger.proofs.Accepted.{accepted, new-small}
 use Rattle.ledger.proofs.book.Ledger.decay_all.Statement.{statement}
 use Rattle.ledger.proofs.book.Ledger.decay_all.Tie as tie
 
+one : (s : tie.Start) {d : Decayed} (t : ℕ) → t < 8 → d ≡ decayedAt (s .args .self) (s .args .bytes .now) t → d .release ≤ mostBrought
+unfolding decayedAt
+one s t h e =
+    let l = s .args .self in
+    let bytes = s .args .bytes .now in
+    rw e (new-small l bytes (accepted l bytes 48 (s .pre .0)) t h .G)
+
+-- what the releases are at most
+each : (c : tie.After-decay8) → c .before .before .before .before .before .before .before .decay .result .release + c .before .before .before .before .before .before .decay2 .result .release + c .before .before .before .before .before .decay3 .result .release + c .before .before .before .before .decay4 .result .release + c .before .before .before .decay5 .result .release + c .before .before .decay6 .result .release + c .before .decay7 .result .release + c .decay8 .result .release ≤ 8 * mostBrought
+each c =
+    let s = c .before .before .before .before .before .before .before .before .before in
+    omega (
+      arith,
+      one s 0 (omega arith) (c .before .before .before .before .before .before .before .decay .ensures),
+      one s 1 (omega arith) (c .before .before .before .before .before .before .decay2 .ensures),
+      one s 2 (omega arith) (c .before .before .before .before .before .decay3 .ensures),
+      one s 3 (omega arith) (c .before .before .before .before .decay4 .ensures),
+      one s 4 (omega arith) (c .before .before .before .decay5 .ensures),
+      one s 5 (omega arith) (c .before .before .decay6 .ensures),
+      one s 6 (omega arith) (c .before .decay7 .ensures),
+      one s 7 (omega arith) (c .decay8 .ensures),
+    )
+
 returns : tie.Need-returns
+unfolding periodOfAll x0Of decayedAt
 returns c =
-    rw (c .decay8 .ensures, c .before .decay7 .ensures, c .before .before .decay6 .ensures, c .before .before .before .decay5 .ensures, c .before .before .before .before .decay4 .ensures, c .before .before .before .before .before .decay3 .ensures, c .before .before .before .before .before .before .decay2 .ensures, c .before .before .before .before .before .before .before .decay .ensures)
+    let d = c .before .before .before .before .before .before .before .before in
+    simp (
+      d .decay8 .ensures,
+      d .before .decay7 .ensures,
+      d .before .before .decay6 .ensures,
+      d .before .before .before .decay5 .ensures,
+      d .before .before .before .before .decay4 .ensures,
+      d .before .before .before .before .before .decay3 .ensures,
+      d .before .before .before .before .before .before .decay2 .ensures,
+      d .before .before .before .before .before .before .before .decay .ensures,
+      zero-add,
+    )
 
 pub decay-all-spec : {M : Type 1} → statement M
 decay-all-spec =
@@ -14,4 +56,11 @@ decay-all-spec =
     (tie.spec (λ c κs. search needs) (λ c κs. search needs) (λ c κs. search needs) (λ c κs. search needs)
     (λ c κs. search needs) (λ c κs. search needs) (λ c κs. search needs)
     (λ c κs. let s = c .before .before .before .before .before .before .before .before in ((s .pre .0, omega arith), s .pre .1))
+    (λ c. omega (arith, each (c .before .before)))
+    (λ c. omega (arith, each (c .before .before .before)))
+    (λ c. omega (arith, each (c .before .before .before .before)))
+    (λ c. omega (arith, each (c .before .before .before .before .before)))
+    (λ c. omega (arith, each (c .before .before .before .before .before .before)))
+    (λ c. omega (arith, each (c .before .before .before .before .before .before .before)))
+    (λ c. omega (arith, each (c .before .before .before .before .before .before .before .before)))
     returns)

@@ -1,9 +1,9 @@
 -- The entries of the types' rates in the climate.
 use mathlib.Core.Path.{_∙_}
 use borrow.Author.Needs.{needs}
-use Rattle.ledger.specs.Stock.{entryAt}
-use Rattle.ledger.proofs.stock.entries.Statement.{statement}
-use Rattle.ledger.proofs.stock.entries.Tie as tie
+use Rattle.stock.specs.Stock.{entryAt}
+use Rattle.stock.proofs.entries.Statement.{statement}
+use Rattle.stock.proofs.entries.Tie as tie
 
 returns : tie.Need-returns
 unfolding entryAt

@@ -6,16 +6,15 @@ use native.Mathlib.Omega.{arith}
 use borrow.Author.Needs.{needs}
 use Rattle.waste.specs.Waste.{massLimit, mostCarbon, carbonOf}
 use Rattle.waste.proofs.Laws.{carbon-most}
-use Rattle.ledger.specs.Stock.{mostRecords}
-use Rattle.ledger.specs.Refusal.{ceilingOf}
-use Rattle.ledger.proofs.book.is_within.Statement.{statement}
-use Rattle.ledger.proofs.book.is_within.Tie as tie
+use Rattle.stock.specs.Stock.{mostRecords, ceilingOf, withinOf}
+use Rattle.stock.proofs.is_within.Statement.{statement}
+use Rattle.stock.proofs.is_within.Tie as tie
 
 most : (n t carbon : ℕ) → n ≤ mostRecords → carbon ≡ carbonOf (t + 1) → n * massLimit * carbon ≤ mostRecords * massLimit * mostCarbon
 most n t carbon h e = mul-le-mul {n₂ = mostRecords * massLimit} {m₂ = mostCarbon} (omega arith) (rw e (carbon-most (t + 1)))
 
 returns : tie.Need-returns
-unfolding ceilingOf
+unfolding ceilingOf withinOf
 returns c = rw (c .carbon .ensures)
 
 pub is-within-spec : {M : Type 1} → statement M

@@ -5,9 +5,9 @@ use native.Mathlib.Omega.{arith}
 use borrow.Author.Needs.{needs}
 use lib.Dec.{lit<}
 use Rattle.numbers.proofs.Split.{share-most, share-fits}
-use Rattle.ledger.specs.Stock.{leftOf}
-use Rattle.ledger.proofs.stock.left.Statement.{statement}
-use Rattle.ledger.proofs.stock.left.Tie as tie
+use Rattle.stock.specs.Stock.{leftOf}
+use Rattle.ledger.proofs.period.left.Statement.{statement}
+use Rattle.ledger.proofs.period.left.Tie as tie
 
 mul-div-requires : tie.Need-mul-div-requires
 mul-div-requires c κs = share-fits (c .args .held) (c .args .entry) (10 ^ 9) (search needs) (search needs) (search needs) (lit< tt)
