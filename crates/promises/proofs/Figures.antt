@@ -16,9 +16,9 @@ use Rattle.numbers.proofs.Lists.{length-more, each-map, each-more}
 use Rattle.record.specs.Fields.{factorsOf}
 use Rattle.record.proofs.Laws.{ranged}
 use Rattle.figure.specs.Figure.{marginOf, BOf}
-use Rattle.ledger.specs.Stock.{release, broughtAt, after}
+use Rattle.ledger.specs.Stock.{broughtAt, release, x0Of, after}
 use Rattle.ledger.specs.Refusal.{refusalOf}
-use Rattle.ledger.specs.Take.{x0Of, acceptedOf}
+use Rattle.ledger.specs.Take.{acceptedOf}
 use Rattle.ledger.specs.History.{Turn}
 use Rattle.ledger.specs.declared.book.Ledger.{Ledger}
 use Rattle.ledger.specs.declared.answer.Answer.{Answer}

@@ -6,6 +6,7 @@ pub mod Decay
 pub mod Waste
 pub mod Record
 pub mod Output
+pub mod Stock
 pub mod Figure
 pub mod Ledger
 pub mod Door

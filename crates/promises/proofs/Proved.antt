@@ -13,7 +13,8 @@ use Rattle.numbers.specs.Fraction.{Fraction}
 use Rattle.decay.proofs.Laws.{stands-for-sums}
 use Rattle.waste.specs.Waste.{rateOf, climates, isClimate}
 use Rattle.record.specs.Fields.{recordBytes}
-use Rattle.ledger.specs.Stock.{fresh, broughtAt, stockAt, entryAt, after}
+use Rattle.stock.specs.Stock.{entryAt}
+use Rattle.ledger.specs.Stock.{fresh, broughtAt, stockAt, after}
 use Rattle.ledger.specs.Take.{takeOf, acceptedOf, outputFields}
 use Rattle.ledger.specs.History.{recordsOf, runOf}
 use Rattle.ledger.specs.declared.book.Ledger.{Ledger}

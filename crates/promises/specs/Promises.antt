@@ -13,7 +13,8 @@ use Rattle.numbers.specs.Lists.{added, Each}
 use Rattle.decay.specs.Series.{E, StandsFor, exponent}
 use Rattle.waste.specs.Waste.{rateOf}
 use Rattle.record.specs.Fields.{recordBytes, periodOf, kindOf, climateOf, depositOf}
-use Rattle.ledger.specs.Stock.{fresh, broughtAt, stockAt, entryAt}
+use Rattle.stock.specs.Stock.{entryAt}
+use Rattle.ledger.specs.Stock.{fresh, broughtAt, stockAt}
 use Rattle.ledger.specs.Take.{takeOf, totalStock, outputFields}
 use Rattle.ledger.specs.History.{Offer, Turn, recordsOf, runOf, outOf, outcomeOf}
 use Rattle.ledger.specs.declared.book.Ledger.{Ledger}

@@ -2,11 +2,9 @@
 use denote.Ref.{now}
 use Rattle.ledger.proofs.book.Ledger.fresh.Reads as fresh
 use Rattle.ledger.proofs.book.Ledger.is_sound.Reads as is-sound
-use Rattle.ledger.proofs.book.Ledger.refusal.Reads as refusal
 use Rattle.ledger.proofs.book.Ledger.take.Reads as take
 use Rattle.ledger.proofs.book.Ledger.totals.Reads as totals
 use Rattle.ledger.proofs.run.Reads as run
-use Rattle.ledger.proofs.entries.Reads as ledger-entries
 use Rattle.promises.proofs.OneAnswer.{OneAnswer, Settled, by-equation, _&_, both}
 
 pub fresh-one : OneAnswer fresh.Learnt
@@ -14,9 +12,6 @@ fresh-one = by-equation (λ κs a r s p. p)
 
 pub is-sound-one : OneAnswer is-sound.Learnt
 is-sound-one = by-equation (λ κs a r s p. p)
-
-pub refusal-one : OneAnswer refusal.Learnt
-refusal-one = by-equation (λ κs a r s p. p)
 
 pub take-one : Settled take.Learnt (λ κs r s. r & now (s .1 .1 .0))
 take-one = by-equation (λ κs a r s p. both (p .0) (p .1))
@@ -26,6 +21,3 @@ totals-one = by-equation (λ κs a r s p. p)
 
 pub run-one : Settled run.Learnt (λ κs r s. r & now (s .1 .1 .0))
 run-one = by-equation (λ κs a r s p. both (p .0) (p .1))
-
-pub ledger-entries-one : OneAnswer ledger-entries.Learnt
-ledger-entries-one = by-equation (λ κs a r s p. p)
