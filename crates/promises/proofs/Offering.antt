@@ -1,7 +1,9 @@
--- No offer changes nothing. An offer in front of others: accepted, its turn stands in front of what comes of the rest; refused, it is passed over.
-use mathlib.Core.Path.{_≡_, refl}
-use mathlib.Core.List.{List, [], _∷_}
+-- No offer changes nothing. Of an offer in front of others that is accepted the turn stands in front of what comes of the rest; one
+-- that is refused is passed over.
+use mathlib.Core.Path.{_≡_, refl, ap, _∙_}
+use mathlib.Core.List.{List, [], _∷_, _++_}
 use Prim.Native.Nat.{ℕ}
+use native.Mathlib.Decide.{ℕ-discrete}
 use borrow.Author.Tests.{ne-eqb}
 use Rattle.ledger.specs.Stock.{after}
 use Rattle.ledger.specs.Refusal.{refusalOf}
@@ -30,3 +32,22 @@ module _ (l : Ledger) (bytes : List ℕ) (room : ℕ) (offers : List Offer) wher
   pub offering-passes-over : (refusalOf l bytes room ≡ 0 → ⊥) → offeringTo l all ≡ offeringTo l offers
   unfolding offeringTo turns ledgerAfter accepted refusedOf
   offering-passes-over e = simp (not-taken l bytes room e, ne-eqb (refusalOf l bytes room) 0 e)
+
+-- Offers one stretch after another: the second goes on from the ledger that the first leaves.
+abbrev pub behind : Offering → Offering → Offering
+behind first second = record { ledger = second .ledger; accepted = first .accepted ++ second .accepted }
+
+pub offering-join : (xs : List Offer) (l : Ledger) (ys : List Offer)
+    → offeringTo l (xs ++ ys) ≡ behind (offeringTo l xs) (offeringTo (offeringTo l xs .ledger) ys)
+offering-join [] l ys = rw (offering-ends l)
+offering-join (offer ∷ xs) l ys =
+    elim (ℕ-discrete (refusalOf l (offer .bytes) (offer .room)) 0) [
+      | yes e ↦
+          offering-goes-on l (offer .bytes) (offer .room) (xs ++ ys) e
+          ∙ ap (inFront (acceptedTurn l (offer .bytes))) (offering-join xs (after l (offer .bytes)) ys)
+          ∙ rw (offering-goes-on l (offer .bytes) (offer .room) xs e)
+      | no e ↦
+          offering-passes-over l (offer .bytes) (offer .room) (xs ++ ys) e
+          ∙ offering-join xs l ys
+          ∙ rw (offering-passes-over l (offer .bytes) (offer .room) xs e)
+    ]

@@ -21,7 +21,7 @@ use Rattle.ledger.proofs.History.{acceptedTurn}
 use Rattle.ledger.proofs.Step.{brought-after, released, balanced}
 use Rattle.promises.specs.Offering.{Offering, offeringTo, offering, recordsIn}
 use Rattle.promises.specs.Promises.{Conserved}
-use Rattle.promises.proofs.Offering.{offering-ends, offering-goes-on, offering-passes-over}
+use Rattle.promises.proofs.Offering.{offering-ends, offering-goes-on, offering-passes-over, behind}
 
 -- no record, and one accepted record more
 abbrev pub begun : Offering
@@ -34,12 +34,8 @@ pub data OneByOne : Offering → Type 0 where
   none-yet : OneByOne begun
   one-more : (o : Offering) (bytes : List ℕ) (room : ℕ) → OneByOne o → refusalOf (o .ledger) bytes room ≡ 0 → OneByOne (withOne o bytes)
 
--- what comes of more offers, behind an offering
-abbrev onward : Offering → List Offer → Offering
-onward o offers =
-    record { ledger = offeringTo (o .ledger) offers .ledger; accepted = o .accepted ++ offeringTo (o .ledger) offers .accepted }
-
-goes-one-by-one : (offers : List Offer) (o : Offering) → OneByOne o → OneByOne (onward o offers)
+-- and more offers
+goes-one-by-one : (offers : List Offer) (o : Offering) → OneByOne o → OneByOne (behind o (offeringTo (o .ledger) offers))
 goes-one-by-one [] o r = rw (offering-ends (o .ledger), append-nil (o .accepted)) r
 goes-one-by-one (offer ∷ rest) o r =
     elim (ℕ-discrete (refusalOf (o .ledger) (offer .bytes) (offer .room)) 0) [

@@ -15,7 +15,7 @@ use Rattle.ledger.specs.declared.answer.Outcome.{Outcome}
 use Rattle.ledger.proofs.Take.{take-refusal}
 use Rattle.ledger.proofs.History.{run-goes-on, run-stops, run-ends}
 use Rattle.promises.specs.Offering.{Offering, offeringTo, recordsIn}
-use Rattle.promises.specs.WholeRun.{LeadingAccepted, LeadingEnds, none-left, next-refused, WholeRun}
+use Rattle.promises.specs.WholeRun.{LeadingAccepted, LeadingEnds, none-left, next-refused, runOver, WholeRun}
 use Rattle.promises.proofs.Offering.{offering-ends, offering-goes-on, offering-passes-over}
 use Rattle.promises.proofs.WholeRun.{whole-run}
 
@@ -80,7 +80,7 @@ only-run (bytes ∷ rest) l room l′ (suc k) q a ends =
     ]
 
 pub one-run : (l : Ledger) (file out : List ℕ) (answer : Outcome) (left : List ℕ) → WholeRun l file out answer left
-    → (answer ≡ outcomeOf (runOf l (recordsOf file) (length out))) × (left ≡ outOf (runOf l (recordsOf file) (length out)) out)
+    → (answer ≡ outcomeOf (runOver l file out)) × (left ≡ outOf (runOver l file out) out)
 one-run l file out answer left w =
     let same = only-run (recordsOf file) l (length out) (answer .ledger) (answer .accepted) (answer .refusal) (w .begins) (w .stops) in
     (same, (rw same at (w .output-after)) ∙ sym (whole-run l file out .output-after))

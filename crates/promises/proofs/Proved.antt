@@ -120,6 +120,6 @@ promises =
       whole-run = whole-run;
       one-run = one-run;
       says-own = says-own;
-      listing-of-run = listing-of-run;
+      listing-of-run = λ file room enough. listing-of-run file room (omega arith);
       worked-figures = worked;
     }

@@ -1,7 +1,7 @@
 -- A run takes a record exactly where offering it does, and hands on the same ledger and the same room, so both go side by side.
 use mathlib.Core.Path.{_≡_, refl, sym, ap, _∙_}
 use mathlib.Core.List.{List, [], _∷_, map}
-use Prim.Native.Nat.{ℕ, suc, _-_, _*_}
+use Prim.Native.Nat.{ℕ, suc, _-_}
 use native.Mathlib.Decide.{ℕ-discrete}
 use native.Mathlib.Omega.{arith}
 use lib.ListN.{length, getD, take}
@@ -14,7 +14,7 @@ use Rattle.ledger.specs.declared.book.Ledger.{Ledger}
 use Rattle.ledger.proofs.Take.{take-refusal}
 use Rattle.ledger.proofs.History.{onFrom, acceptedTurn, run-goes-on, run-stops, run-ends, outputs-length}
 use Rattle.promises.specs.Offering.{Offering, offeringTo, recordsIn}
-use Rattle.promises.specs.WholeRun.{LeadingEnds, none-left, next-refused, WholeRun}
+use Rattle.promises.specs.WholeRun.{LeadingEnds, none-left, next-refused, runOver, WholeRun}
 use Rattle.promises.proofs.Offering.{inFront, offering-ends, offering-goes-on}
 
 -- the offering that a run comes to
@@ -62,11 +62,9 @@ follows l (bytes ∷ rest) room =
           })
     ]
 
-pub whole-run : (l : Ledger) (file out : List ℕ)
-    → WholeRun l file out (outcomeOf (runOf l (recordsOf file) (length out))) (outOf (runOf l (recordsOf file) (length out)) out)
+pub whole-run : (l : Ledger) (file out : List ℕ) → WholeRun l file out (outcomeOf (runOver l file out)) (outOf (runOver l file out) out)
 unfolding outcomeOf outOf
 whole-run l file out =
-    let r = runOf l (recordsOf file) (length out) in
     let f = follows l (recordsOf file) (length out) in
     record {
       begins =
@@ -76,5 +74,5 @@ whole-run l file out =
             ledger-after = sym (ap (λ (o : Offering). o .ledger) (f .offered));
           };
       stops = f .stop;
-      output-after = rw (f .offered, outputs-length (r .accepted));
+      output-after = rw (f .offered, outputs-length (runOver l file out .accepted));
     }

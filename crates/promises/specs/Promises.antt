@@ -24,7 +24,7 @@ use Rattle.line.specs.Line.{acceptedText}
 use Rattle.line.specs.Listing.{answerText, runText, listingOf}
 use Rattle.promises.specs.Offering.{Offering, offering, recordsIn}
 use Rattle.promises.specs.Exact.{inert, exactStockAt, exactFigure}
-use Rattle.promises.specs.WholeRun.{WholeRun}
+use Rattle.promises.specs.WholeRun.{runOver, WholeRun}
 use Rattle.promises.specs.Worked.{rows, holds}
 
 -- The carbon that the accepted records are answered to release at place t.
@@ -93,11 +93,10 @@ pub record Promises : Type 0 where
   -- D / 10^9 ≤ p / q < (D + 1) / 10^9, with the denominators multiplied out.
   pub any-fraction : (D p q : ℕ) (above : 0 < q) → StandsFor D (over p q above) ↔ ((D * q ≤ 10 ^ 9 * p) × (10 ^ 9 * p < (D + 1) * q))
   -- 'the count is the number of leading records that the step, taken one after another, accepts': so demand 3 holds of a whole run.
-  pub whole-run : (l : Ledger) (file out : List ℕ)
-      → WholeRun l file out (outcomeOf (runOf l (recordsOf file) (length out))) (outOf (runOf l (recordsOf file) (length out)) out)
+  pub whole-run : (l : Ledger) (file out : List ℕ) → WholeRun l file out (outcomeOf (runOver l file out)) (outOf (runOver l file out) out)
   -- No other answer, and no other output, meets that.
   pub one-run : (l : Ledger) (file out : List ℕ) (answer : Outcome) (left : List ℕ) → WholeRun l file out answer left
-      → (answer ≡ outcomeOf (runOf l (recordsOf file) (length out))) × (left ≡ outOf (runOf l (recordsOf file) (length out)) out)
+      → (answer ≡ outcomeOf (runOver l file out)) × (left ≡ outOf (runOver l file out) out)
   -- 'The output record [..]: bytes 0-1 period, 2 kind, 3 climate', and the line 'for each accepted one: period, x0, ..'
   pub says-own : (l : Ledger) (bytes : List ℕ) (room : ℕ) → takeOf l bytes room .refusal ≡ 0 → SaysOwn bytes (takeOf l bytes room)
   -- 'The listing program [..] prints for each accepted one [..]. At a refusal it prints [..] the record's place, and stops': the

@@ -6,7 +6,7 @@ use Prim.Native.Nat.{ℕ, _-_, _*_, _<_}
 use lib.ListN.{length, getD, take, drop}
 use Rattle.record.specs.Fields.{recordBytes}
 use Rattle.ledger.specs.Take.{takeOf}
-use Rattle.ledger.specs.History.{outputs, recordsOf, inTurn}
+use Rattle.ledger.specs.History.{outputs, recordsOf, inTurn, Run, runOf}
 use Rattle.ledger.specs.declared.book.Ledger.{Ledger}
 use Rattle.ledger.specs.declared.answer.Answer.{Answer}
 use Rattle.ledger.specs.declared.answer.Outcome.{Outcome}
@@ -35,6 +35,10 @@ module _ (records : List (List ℕ)) (room : ℕ) (answer : Outcome) where
   pub data LeadingEnds : Type 0 where
     none-left : answer .accepted ≡ length records → answer .refusal ≡ 0 → LeadingEnds
     next-refused : answer .accepted < length records → answer .refusal ≡ nextAnswer .refusal → 0 < answer .refusal → LeadingEnds
+
+-- The run over a file, with an output.
+abbrev pub runOver : Ledger → (file out : List ℕ) → Run
+runOver l file out = runOf l (recordsOf file) (length out)
 
 -- So of a file and an output, and what is left in the output: output record i starts at 48 × (i − 1), and the rest keeps its value.
 pub record WholeRun (l : Ledger) (file out : List ℕ) (answer : Outcome) (left : List ℕ) : Type 0 where
