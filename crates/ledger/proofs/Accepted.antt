@@ -19,8 +19,8 @@ use Rattle.waste.specs.Waste.{massLimit, carbonOf, rateOf, isClimate, isClass}
 use Rattle.record.specs.Fields.{recordBytes, periodOf, kindOf, climateOf, factorsOf, zerosOf, massOf, depositOf}
 use Rattle.record.specs.Ranges.{coded, inRange, light}
 use Rattle.record.proofs.Laws.{mass-light}
-use Rattle.stock.specs.Stock.{mostRecords, mostBrought, entryAt, leftOf, ceilingOf}
-use Rattle.ledger.specs.Stock.{broughtAt, stockAt, newBrought, held, newStock, release, after}
+use Rattle.stock.specs.Stock.{mostRecords, mostBrought, entryAt, ceilingOf}
+use Rattle.ledger.specs.Stock.{leftOf, broughtAt, stockAt, newBrought, held, newStock, release, after}
 use Rattle.ledger.specs.Refusal.{sound, continues, faultsOf, refusalOf}
 use Rattle.ledger.specs.Take.{acceptedOf}
 use Rattle.ledger.specs.declared.book.Ledger.{Ledger}

@@ -1,16 +1,22 @@
 -- One accepted record, place by place: the deposit goes into T and H, and H is parted into the new R and the release.
 use mathlib.Core.Path.{_≡_}
 use mathlib.Core.List.{List}
-use Prim.Native.Nat.{ℕ, _+_, _<_}
+use Prim.Native.Nat.{ℕ, _+_, _^_, _≤_, _<_}
+use native.Mathlib.Nat.{mul-le-mul-left}
 use native.Mathlib.Omega.{arith}
 use lib.ListN.{getD}
 use Rattle.numbers.proofs.Eight.{eight-at}
 use Rattle.record.specs.Fields.{kindOf, climateOf, depositOf}
-use Rattle.stock.specs.Stock.{entryAt, leftOf}
-use Rattle.ledger.specs.Stock.{broughtAt, stockAt, newBrought, held, newStock, release, after}
-use Rattle.stock.proofs.Laws.{entry-small, left-most}
+use Rattle.stock.specs.Stock.{entryAt}
+use Rattle.ledger.specs.Stock.{leftOf, broughtAt, stockAt, newBrought, held, newStock, release, after}
+use Rattle.stock.proofs.Laws.{entry-small}
 use Rattle.ledger.specs.Take.{acceptedOf}
 use Rattle.ledger.specs.declared.book.Ledger.{Ledger}
+
+-- What is left is at most what was held.
+pub left-most : (H D : ℕ) → D < 10 ^ 9 → leftOf H D ≤ H
+unfolding leftOf
+left-most H D h = omega (arith, mul-le-mul-left H h)
 
 module _ (l : Ledger) (bytes : List ℕ) (t : ℕ) (place : t < 8) where
   pub brought-after : broughtAt (after l bytes) t ≡ broughtAt l t + depositOf bytes t

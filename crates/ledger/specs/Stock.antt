@@ -1,10 +1,10 @@
 -- Document 01, 'One step': one type in one period, once over the kind. Place t has type t + 1; all carbon is in whole milligrams.
 use mathlib.Core.List.{List}
-use Prim.Native.Nat.{ℕ, _+_, _-_}
+use Prim.Native.Nat.{ℕ, _+_, _-_, _*_, _/_, _^_}
 use lib.ListN.{getD}
 use Rattle.numbers.specs.Eight.{eight, sumOf}
 use Rattle.record.specs.Fields.{kindOf, climateOf, depositOf}
-use Rattle.stock.specs.Stock.{entryAt, leftOf}
+use Rattle.stock.specs.Stock.{entryAt}
 use Rattle.ledger.specs.declared.book.Ledger.{Ledger}
 use Rattle.ledger.specs.declared.period.Decayed.{Decayed}
 use Rattle.ledger.specs.declared.period.Period.{Period}
@@ -19,6 +19,10 @@ broughtAt l t = getD (l .brought) t 0
 
 abbrev pub stockAt : Ledger → ℕ → ℕ
 stockAt l t = getD (l .stock) t 0
+
+-- R becomes H × D / 10^9 rounded down.
+unfoldable pub leftOf : (H D : ℕ) → ℕ
+leftOf H D = H * D / 10 ^ 9
 
 -- What an accepted record makes of the ledger l at place t:
 module _ (l : Ledger) (bytes : List ℕ) (t : ℕ) where

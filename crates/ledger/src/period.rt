@@ -1,7 +1,7 @@
 // What a period makes of the types' carbon, in mg.
 ghost use mathlib.Core.Path.{_≡_};
 ghost use Prim.Native.Nat.{_^_, _≤_, _<_};
-ghost use Rattle.stock.specs.Stock.{leftOf};
+ghost use Rattle.ledger.specs.Stock.{leftOf};
 
 // One type after a record: the carbon brought in, the carbon left, and the carbon that the record released.
 pub struct Decayed {

@@ -1,14 +1,14 @@
--- How large things can be: a ceiling, an entry, what is left, and a sum.
+-- How large things can be: a ceiling, an entry, and a sum.
 use mathlib.Core.Path.{_≡_, _∙_}
 use Prim.Native.Nat.{ℕ, _+_, _*_, _%_, _^_, _≤_, _<_}
-use native.Mathlib.Nat.{mul-le-mul, mul-le-mul-left, mod-eq-of-lt}
+use native.Mathlib.Nat.{mul-le-mul, mod-eq-of-lt}
 use native.Mathlib.Omega.{arith}
 use Rattle.numbers.specs.Eight.{sumOf}
 use Rattle.numbers.proofs.Eight.{sum-most}
 use Rattle.decay.proofs.Rule.{entry-below}
 use Rattle.waste.specs.Waste.{massLimit, mostCarbon, carbonOf}
 use Rattle.waste.proofs.Laws.{carbon-most}
-use Rattle.stock.specs.Stock.{mostRecords, mostBrought, entryAt, leftOf, ceilingOf}
+use Rattle.stock.specs.Stock.{mostRecords, mostBrought, entryAt, ceilingOf}
 
 pub ceiling-most : (n t : ℕ) → n ≤ mostRecords → ceilingOf n t ≤ mostBrought
 unfolding ceilingOf
@@ -20,11 +20,6 @@ ceiling-most n t h =
 pub entry-small : (kind climate t : ℕ) → entryAt kind climate t < 10 ^ 9
 unfolding entryAt
 entry-small kind climate t = entry-below kind _
-
--- What is left is at most what was held.
-pub left-most : (H D : ℕ) → D < 10 ^ 9 → leftOf H D ≤ H
-unfolding leftOf
-left-most H D h = omega (arith, mul-le-mul-left H h)
 
 -- A sum of eight small numbers is in 64 bits what it is.
 pub sum-fits : (f : ℕ → ℕ) → ((t : ℕ) → t < 8 → f t ≤ mostBrought) → sumOf f 8 % 2 ^ 64 ≡ sumOf f 8

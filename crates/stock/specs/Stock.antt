@@ -1,7 +1,7 @@
 -- Document 01, 'One step' and refusal 3: one type by its place, once over the kind. Place t has type t + 1; all carbon is in whole
 -- milligrams.
 use mathlib.Core.Bool.{Bool, _&&_}
-use Prim.Native.Nat.{ℕ, _+_, _*_, _/_, _^_}
+use Prim.Native.Nat.{ℕ, _+_, _*_}
 use lib.Dec.{leb}
 use Rattle.decay.specs.Series.{entryOf}
 use Rattle.waste.specs.Waste.{massLimit, carbonOf, rateOf}
@@ -18,10 +18,6 @@ mostBrought = mostRecords * mostDeposit
 -- D, the table entry for the type's rate in a kind and climate.
 unfoldable pub entryAt : (kind climate t : ℕ) → ℕ
 entryAt kind climate t = entryOf kind (rateOf (t + 1) climate)
-
--- R becomes H × D / 10^9 rounded down.
-unfoldable pub leftOf : (H D : ℕ) → ℕ
-leftOf H D = H * D / 10 ^ 9
 
 -- T is at most n × 10^9 × DOC × 100, and R at most T.
 unfoldable pub ceilingOf : (n t : ℕ) → ℕ

@@ -5,7 +5,7 @@ use native.Mathlib.Omega.{arith}
 use borrow.Author.Needs.{needs}
 use lib.Dec.{lit<}
 use Rattle.numbers.proofs.Split.{share-most, share-fits}
-use Rattle.stock.specs.Stock.{leftOf}
+use Rattle.ledger.specs.Stock.{leftOf}
 use Rattle.ledger.proofs.period.left.Statement.{statement}
 use Rattle.ledger.proofs.period.left.Tie as tie
 

@@ -11,7 +11,8 @@ use Rattle.record.proofs.Laws.{deposit-most}
 use Rattle.stock.specs.Stock.{mostBrought, entryAt}
 use Rattle.ledger.specs.Stock.{stockAt, held, newStock, release}
 use Rattle.ledger.proofs.Accepted.{Accepted, accepted}
-use Rattle.stock.proofs.Laws.{entry-small, left-most}
+use Rattle.stock.proofs.Laws.{entry-small}
+use Rattle.ledger.proofs.Step.{left-most}
 use Rattle.ledger.proofs.book.Ledger.released.Statement.{statement}
 use Rattle.ledger.proofs.book.Ledger.released.Tie as tie
 
