@@ -6,7 +6,7 @@ use native.Mathlib.Nat.{add-zero}
 use native.Mathlib.Numerals.{add-one}
 use native.Mathlib.Omega.{arith}
 use lib.ListN.{length, length-append}
-use Rattle.promises.specs.Promises.{added, Each}
+use Rattle.numbers.specs.Lists.{added, Each}
 
 module _ {A : Type 0} where
   pub length-more : (xs : List A) (x : A) → length (xs ++ (x ∷ [])) ≡ suc (length xs)
