@@ -16,7 +16,7 @@ use Rattle.waste.specs.Waste.{isClimate}
 use Rattle.stock.specs.Stock.{mostRecords, mostBrought, ceilingOf, withinOf}
 use Rattle.stock.proofs.Laws.{ceiling-most}
 use Rattle.ledger.specs.Stock.{broughtAt, stockAt}
-use Rattle.ledger.specs.Refusal.{sound, allZero, inOrder, emptyAt, withinAt}
+use Rattle.ledger.specs.Refusal.{sound, blank, inCode, allZero, inOrder, emptyAt, withinAt}
 use Rattle.ledger.specs.declared.book.Ledger.{Ledger}
 
 -- Of each type R is at most T, and T at most its ceiling, which is at most that of wood.
@@ -37,9 +37,9 @@ pub record Sound (l : Ledger) : Type 0 where
 empty : (l : Ledger) → l .n ≤ mostRecords → l .n ≡ 0 → allZero l ≡ true → Sound l
 unfolding allZero emptyAt
 empty l few z e =
-    let p = all-true (eqb (l .kind) 0 ∷ eqb (l .climate) 0 ∷ everyOf (emptyAt l) 8 ∷ []) e in
+    let p = both-true (blank l) (everyOf (emptyAt l) 8) e in
     let at : (t : ℕ) → t < 8 → (broughtAt l t ≡ 0) × (stockAt l t ≡ 0)
-    = λ t h. let q = both-true (eqb (broughtAt l t) 0) (eqb (stockAt l t) 0) (every-at (emptyAt l) 8 t h (p .1 .1 .0)) in
+    = λ t h. let q = both-true (eqb (broughtAt l t) 0) (eqb (stockAt l t) 0) (every-at (emptyAt l) 8 t h (p .1)) in
     (eqb-true (broughtAt l t) 0 (q .0), eqb-true (stockAt l t) 0 (q .1)) in
     record {
       few = few;
@@ -51,13 +51,13 @@ empty l few z e =
 ordered : (l : Ledger) → l .n ≤ mostRecords → inOrder l ≡ true → Sound l
 unfolding inOrder withinAt withinOf
 ordered l few e =
-    let p = all-true (isKind (l .kind) ∷ isClimate (l .climate) ∷ everyOf (withinAt l) 8 ∷ []) e in
+    let p = both-true (inCode l) (everyOf (withinAt l) 8) e in
     let at : (t : ℕ) → t < 8 → (leb (broughtAt l t) (ceilingOf (l .n) t) ≡ true) × (leb (stockAt l t) (broughtAt l t) ≡ true)
-    = λ t h. both-true (leb (broughtAt l t) (ceilingOf (l .n) t)) (leb (stockAt l t) (broughtAt l t)) (every-at (withinAt l) 8 t h (p .1 .1 .0)) in
+    = λ t h. both-true (leb (broughtAt l t) (ceilingOf (l .n) t)) (leb (stockAt l t) (broughtAt l t)) (every-at (withinAt l) 8 t h (p .1)) in
     record {
       few = few;
       at = λ t h. within l t few (leb-true (stockAt l t) (broughtAt l t) (at t h .1)) (leb-true (broughtAt l t) (ceilingOf (l .n) t) (at t h .0));
-      coded = λ n. (p .0, p .1 .0);
+      coded = λ n. both-true (isKind (l .kind)) (isClimate (l .climate)) (p .0);
     }
 
 pub sound-is : (l : Ledger) → sound l ≡ true → Sound l
@@ -71,13 +71,13 @@ sound-is l e =
     ]
 
 -- A ledger with records, in order, is sound.
-pub is-sound : (l : Ledger) → l .n ≤ mostRecords → (l .n ≡ 0 → ⊥) → isKind (l .kind) ≡ true → isClimate (l .climate) ≡ true
+pub is-sound : (l : Ledger) → l .n ≤ mostRecords → (l .n ≡ 0 → ⊥) → inCode l ≡ true
     → ((t : ℕ) → t < 8 → (stockAt l t ≤ broughtAt l t) × (broughtAt l t ≤ ceilingOf (l .n) t)) → sound l ≡ true
 unfolding sound inOrder withinAt withinOf
-is-sound l few some kind climate at =
+is-sound l few some code at =
     let every : everyOf (withinAt l) 8 ≡ true
     = every-each (withinAt l) 8 (λ t h. simp (le-leb (broughtAt l t) (ceilingOf (l .n) t) (at t h .1), le-leb (stockAt l t) (broughtAt l t) (at t h .0))) in
-    simp (le-leb (l .n) mostRecords few, ne-eqb (l .n) 0 some, kind, climate, every)
+    simp (le-leb (l .n) mostRecords few, ne-eqb (l .n) 0 some, code, every)
 
 -- With no records T and R within a ceiling of 0 are T and R of 0, so one test over the types serves every sound ledger.
 none-within : (T R : ℕ) → (leb T 0 && leb R T) ≡ (eqb T 0 && eqb R 0)
@@ -91,15 +91,15 @@ same l t z = simp (z, zero-mul) (none-within (broughtAt l t) (stockAt l t))
 
 module _ (l : Ledger) where
   abbrev codes : Bool
-  codes = cond (eqb (l .n) 0) (eqb (l .kind) 0 && eqb (l .climate) 0) (isKind (l .kind) && isClimate (l .climate))
+  codes = cond (eqb (l .n) 0) (blank l) (inCode l)
 
   -- the codes, and what every type may have, whatever n is
   with-codes : sound l ≡ (leb (l .n) mostRecords && (codes && everyOf (withinAt l) 8))
   unfolding sound allZero inOrder
   with-codes =
       elim (ℕ-discrete (l .n) 0) [
-        | yes z ↦ simp (eq-eqb (l .n) 0 z, every-same (withinAt l) (emptyAt l) 8 (λ t h. same l t z), and-true, ← and-assoc)
-        | no z ↦ simp (ne-eqb (l .n) 0 z, and-true, ← and-assoc)
+        | yes z ↦ simp (eq-eqb (l .n) 0 z, every-same (withinAt l) (emptyAt l) 8 (λ t h. same l t z))
+        | no z ↦ simp (ne-eqb (l .n) 0 z)
       ]
 
   pub sound-tests : sound l ≡ (codes && (leb (l .n) mostRecords && everyOf (withinAt l) 8))

@@ -18,15 +18,21 @@ use Rattle.ledger.specs.declared.book.Ledger.{Ledger}
 unfoldable pub emptyAt : Ledger → ℕ → Bool
 emptyAt l t = eqb (broughtAt l t) 0 && eqb (stockAt l t) 0
 
+abbrev pub blank : Ledger → Bool
+blank l = eqb (l .kind) 0 && eqb (l .climate) 0
+
 unfoldable pub allZero : Ledger → Bool
-allZero l = allOf (eqb (l .kind) 0 ∷ eqb (l .climate) 0 ∷ everyOf (emptyAt l) 8 ∷ [])
+allZero l = blank l && everyOf (emptyAt l) 8
 
 -- With n > 0, kind and climate are codes, and of each type T is at most n × 10^9 × DOC × 100 and R at most T.
 unfoldable pub withinAt : Ledger → ℕ → Bool
 withinAt l t = withinOf (l .n) (broughtAt l t) (stockAt l t) t
 
+abbrev pub inCode : Ledger → Bool
+inCode l = isKind (l .kind) && isClimate (l .climate)
+
 unfoldable pub inOrder : Ledger → Bool
-inOrder l = allOf (isKind (l .kind) ∷ isClimate (l .climate) ∷ everyOf (withinAt l) 8 ∷ [])
+inOrder l = inCode l && everyOf (withinAt l) 8
 
 unfoldable pub sound : Ledger → Bool
 sound l = leb (l .n) mostRecords && cond (eqb (l .n) 0) (allZero l) (inOrder l)

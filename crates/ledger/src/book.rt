@@ -12,7 +12,7 @@ ghost use Rattle.waste.specs.Waste.{isClimate};
 ghost use Rattle.record.specs.Fields.{kindOf, climateOf, factorsOf};
 ghost use Rattle.stock.specs.Stock.{entryAt};
 ghost use Rattle.ledger.specs.Stock.{fresh, newStock, release, decayedAt, periodOfAll};
-ghost use Rattle.ledger.specs.Refusal.{sound, continues, faultsOf, refusalOf};
+ghost use Rattle.ledger.specs.Refusal.{blank, inCode, sound, continues, faultsOf, refusalOf};
 ghost use Rattle.ledger.specs.Take.{acceptedOf, refusedOf, outputRecord, takeOf, writtenOf, totalsOf};
 use crate::answer::Answer;
 use crate::answer::Totals;
@@ -56,7 +56,7 @@ impl Ledger {
 
     // Tells whether kind and climate are zero with no records, and codes with some.
     fn is_coded(self) -> bool
-        ensures { λ r. ⌜ r ≡ cond (eqb (self .n) 0) (eqb (self .kind) 0 && eqb (self .climate) 0) (isKind (self .kind) && isClimate (self .climate)) ⌝ }
+        ensures { λ r. ⌜ r ≡ cond (eqb (self .n) 0) (blank self) (inCode self) ⌝ }
     {
         if self.n == 0 {
             return (self.kind == 0) & (self.climate == 0);
