@@ -143,6 +143,8 @@ impl Ledger {
         let e = self.decay(entries, bytes, 4);
         let g = self.decay(entries, bytes, 6);
         let h = self.decay(entries, bytes, 7);
+        let early = a.release + b.release + c.release + d.release;
+        let later = e.release + g.release + h.release;
         Period {
             brought: [
                 a.brought,
@@ -164,13 +166,7 @@ impl Ledger {
                 g.stock,
                 h.stock,
             ],
-            x0: a.release
-                + b.release
-                + c.release
-                + d.release
-                + e.release
-                + g.release
-                + h.release,
+            x0: early + later,
         }
     }
 

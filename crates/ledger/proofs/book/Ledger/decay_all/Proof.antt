@@ -1,7 +1,7 @@
 -- Each type by itself, inert waste having no carbon; the releases of a sound ledger add up to less than 64 bits hold.
 use mathlib.Core.Path.{_≡_, ap}
 use Prim.Native.Nat.{ℕ, _+_, _*_, _≤_, _<_}
-use native.Mathlib.Nat.{zero-add, add-zero}
+use native.Mathlib.Nat.{zero-add, add-zero, add-assoc}
 use native.Mathlib.Omega.{arith}
 use borrow.Author.Needs.{needs}
 use Rattle.stock.specs.Stock.{mostBrought}
@@ -52,6 +52,7 @@ returns c =
       none .G,
       zero-add,
       add-zero,
+      add-assoc,
     )
 
 pub decay-all-spec : {M : Type 1} → statement M
@@ -63,7 +64,7 @@ decay-all-spec =
     (λ c. omega (arith, each (c .before .before)))
     (λ c. omega (arith, each (c .before .before .before)))
     (λ c. omega (arith, each (c .before .before .before .before)))
-    (λ c. omega (arith, each (c .before .before .before .before .before)))
     (λ c. omega (arith, each (c .before .before .before .before .before .before)))
+    (λ c. omega (arith, each (c .before .before .before .before .before .before .before)))
     (λ c. omega (arith, each (c .before .before .before .before .before .before .before)))
     returns)
