@@ -1,6 +1,6 @@
-/* Runs one peer over the first records of a monthly file of 1200, or compares what all peers write and
- * fails where one refuses a record, or library and reference differ.
- * Usage: bench PEER COUNT, with COUNT in four digits; bench compare */
+/* Runs one peer, or another entry of the library, over the first records of a monthly file of 1200, or compares what all peers
+ * write and fails where one refuses a record, or library and reference differ.
+ * Usage: bench PEER COUNT or bench ENTRY COUNT, with COUNT in four digits; bench compare */
 #include "doubles.h"
 #include "inputs.h"
 #include "landfill.h"
@@ -11,9 +11,9 @@
 #include <stdlib.h>
 #include <string.h>
 
-enum { RECORDS = 1200, BYTES = 48, PEERS = 5, EQUATION = 4, MOST_BY_EQUATION = 120 };
+enum { RECORDS = 1200, BYTES = 48, PEERS = 5, ENTRIES = 2, EQUATION = 4, MOST_BY_EQUATION = 120 };
 
-static uint8_t file[RECORDS * BYTES], out[PEERS][RECORDS * BYTES];
+static uint8_t file[RECORDS * BYTES], out[PEERS][RECORDS * BYTES], text[90 * (RECORDS + 1)];
 
 /* Monthly records of eight types in climate 4, every one accepted. */
 static void make_months(void)
@@ -47,21 +47,53 @@ static uint8_t by_reference(const uint8_t *records, size_t records_len, uint8_t 
     return reference_run(ledger, sizeof ledger, records, records_len, into, into_len, accepted);
 }
 
-static const struct {
+/* The records one by one, from an image to an image. */
+static uint8_t by_take(const uint8_t *records, size_t records_len, uint8_t *into, size_t into_len, uint64_t *accepted)
+{
+    uint8_t ledger[LANDFILL_LEDGER_BYTES], answer[LANDFILL_ANSWER_BYTES], refusal = 0;
+    landfill_fresh(ledger, sizeof ledger);
+    for (*accepted = 0; refusal == 0 && *accepted < records_len / BYTES; *accepted += refusal == 0)
+        refusal = landfill_take(ledger, sizeof ledger, records + BYTES * *accepted, BYTES, into + BYTES * *accepted,
+                                into_len - BYTES * *accepted, answer, sizeof answer);
+    return refusal;
+}
+
+/* Every line of a listing ends with a byte 10. */
+static uint8_t by_listing(const uint8_t *records, size_t records_len, uint8_t *into, size_t into_len, uint64_t *accepted)
+{
+    uint64_t written;
+    (void)into;
+    (void)into_len;
+    uint8_t refusal = landfill_listing(records, records_len, text, sizeof text, &written);
+    *accepted = records_len / BYTES;
+    return refusal != 0 || written > sizeof text;
+}
+
+typedef struct {
     const char *name;
     doubles_run *run;
-} peers[PEERS] = {{"library", by_library},
+} named;
+
+static const named entries[ENTRIES] = {{"take", by_take}, {"listing", by_listing}};
+
+static const named peers[PEERS] = {{"library", by_library},
                   {"reference", by_reference},
                   {"exp-each", doubles_exp_each},
                   {"exp-once", doubles_exp_once},
                   {"equation", doubles_equation}};
 
-/* Tells whether a peer accepts all of the first records. */
+/* Tells whether a peer, or an entry, accepts all of the first records. */
 static int runs(int peer, size_t count)
 {
     uint64_t accepted;
     uint8_t refusal = peers[peer].run(file, BYTES * count, out[peer], sizeof out[peer], &accepted);
     return refusal == 0 && accepted == count;
+}
+
+static int enters(int entry, size_t count)
+{
+    uint64_t accepted;
+    return entries[entry].run(file, BYTES * count, out[0], sizeof out[0], &accepted) == 0 && accepted == count;
 }
 
 /* Prints how far a peer's figures are from the library's, at most, the bound of the library's figure there, and how many
@@ -96,6 +128,8 @@ int main(int words, char **word)
         }
         return memcmp(out[0], out[1], sizeof out[0]) == 0 ? 0 : 1;
     }
+    for (int entry = 0; words == 3 && entry < ENTRIES; entry++)
+        if (strcmp(word[1], entries[entry].name) == 0) return enters(entry, strtoul(word[2], NULL, 10)) ? 0 : 1;
     for (int peer = 0; words == 3 && peer < PEERS; peer++)
         if (strcmp(word[1], peers[peer].name) == 0) return runs(peer, strtoul(word[2], NULL, 10)) ? 0 : 1;
     return 2;

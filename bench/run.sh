@@ -75,6 +75,11 @@ awk -v peers="$peers" '
         table(2, 1)
     }' "$target/counts"
 
+# Another entry of the library, and the listing program, on the same 1200 records.
+each() { echo "$((($($counter "$@" 1200) - $($counter "$@" 0000)) / 1200))"; }
+printf '\nInstructions for each of 1200 records by other entries:\n\n| Entry | Instructions |\n|---|---|\n'
+for entry in take listing; do echo "| \`landfill_$entry\` | $(each "$target/bench" $entry) |"; done
+
 cat <<'END'
 
 Figures beside the library, in grams CO2e:

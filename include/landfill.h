@@ -9,6 +9,7 @@
  * What every entry gives:
  * - Every content of the buffers gets an answer. What cannot be taken is refused by number, in a fixed order.
  * - Nothing is kept between calls, nothing is allocated, and different threads may call at once on buffers of their own.
+ * - The processor's floating-point modes change no answer: cells are read as bits, and points are exact.
  *
  * What the caller sees to. None of it is tested, and without it nothing is promised:
  * - A buffer is a pointer, then its length in bytes. So many bytes of one object stand there; they may be read, and also
@@ -17,8 +18,6 @@
  * - No two buffers of a call overlap, and no number that the call writes lies in a buffer or in another such number.
  * - Buffers need no alignment. Numbers behind pointers are aligned as C aligns them.
  * - While a call runs, no other thread writes what it was given, or reads what it may write.
- * - For landfill_cell the processor's floating-point modes are those that a program starts with. Linking with gcc's
- *   -ffast-math sets others: a cell of 5e-324 is then taken as 0 and not refused with 11.
  * The helpers at the end ask the same. They take no length: what they read or write has a fixed size.
  *
  * Numbers in buffers are little-endian. The constants below say where each stands.
@@ -58,6 +57,7 @@ enum {
     LANDFILL_ANSWER_BYTES = 88,  /* the answer of one step */
     LANDFILL_LINE_BYTES = 90,    /* the longest line of the listing, its byte 10 included */
     LANDFILL_RECORDS = 1200,     /* the most records that a ledger takes */
+    LANDFILL_LISTING_BYTES = 108090, /* room for the listing of any file: 90 for each of 1201 lines */
     LANDFILL_MASS_LIMIT = 1000000000 /* the largest mass of one type in one record, in kg */
 };
 
@@ -199,7 +199,8 @@ uint8_t landfill_point(uint64_t figure, uint64_t bound, double *at, double *low,
  * text, sets *length to its bytes and answers 0; the bytes of text past it stay, and no byte 0 is added. Each accepted
  * record has a line: period, x0, figure, bound, total R, in plain decimal with one space between. At a refusal comes
  * the line "refused K at record P", and nothing after it. Every line ends with a byte 10.
- * text needs 90 bytes for every 48 bytes begun of records. With less, answers 2, writes nothing and sets *length to 0. */
+ * text needs 90 bytes for every 48 bytes begun of records, and 108,090 at most, since record 1201 is refused at the latest.
+ * With less, answers 2, writes nothing and sets *length to 0. */
 uint8_t landfill_listing(const uint8_t *records, size_t records_len, uint8_t *text, size_t text_len, uint64_t *length);
 
 /* Helpers, compiled into the caller. They work on bytes alone, so that byte order and alignment do not matter. */

@@ -273,7 +273,12 @@ static void all_listings(void)
     }
     for (uint64_t i = 0; i < 32; i++) {
         struct series series = {0, 1 + i % 2, 1 + i / 2 % 4};
-        one_listing(series, i < 16 ? 0 : 40, edge(1195 * 48, 1205 * 48), 1205 * 90);
+        one_listing(series, i < 16 ? 0 : 40, edge(1195 * 48, 1205 * 48), i % 3 == 0 ? 1201 * 90 - i % 2 : 1205 * 90);
+    }
+    /* Files about as long as some stretches of 32 records. */
+    for (uint64_t i = 0; i < 600; i++) {
+        size_t length = 1536 * (1 + i % 4) + 48 * (i % 5) + i % 7 - 99;
+        one_listing(any_series(0), i % 3 == 0 ? 0 : 40, length, (length + 47) / 48 * 90);
     }
 }
 

@@ -5,7 +5,7 @@
 #include <stdio.h>
 #include <string.h>
 
-enum { LEDGER_BYTES = 136, BYTES = 48, ANSWER_BYTES = 88, LINE_BYTES = 90 };
+enum { LEDGER_BYTES = 136, BYTES = 48, ANSWER_BYTES = 88, LINE_BYTES = 90, MOST_LINES = 1201 };
 
 /* Reads an image; gives NULL where it is malformed. */
 static const struct reference_ledger *opened(struct reference_ledger *ledger, const uint8_t *image, size_t image_len)
@@ -114,8 +114,9 @@ uint8_t reference_point(uint64_t figure, uint64_t bound, double *at, double *low
 uint8_t reference_listing(const uint8_t *records, size_t records_len, uint8_t *text, size_t text_len, uint64_t *length)
 {
     struct reference_ledger book = {0};
+    size_t lines = (records_len + BYTES - 1) / BYTES;
     *length = 0;
-    if (text_len < (records_len + BYTES - 1) / BYTES * LINE_BYTES) return 2;
+    if (text_len < (lines < MOST_LINES ? lines : MOST_LINES) * LINE_BYTES) return 2;
     for (size_t done = 0; done < records_len; done += BYTES) {
         struct reference_answer it;
         uint8_t out[BYTES];

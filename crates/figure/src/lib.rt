@@ -42,13 +42,13 @@ pub fn figure(factors: Factors, x0: u64) -> u64
     if !factors.is_in_range() {
         return 0;
     }
-    let x1 = kept(x0, factors.factor as u64, factors.captured as u64);
+    let x1 = kept(x0, factors.factor, factors.captured);
     let correction = waste::correction(factors.class) as u64;
     let x2 = methane(
         x1,
-        factors.oxidation as u64,
-        factors.methane as u64,
-        factors.docf as u64,
+        factors.oxidation,
+        factors.methane,
+        factors.docf,
         correction,
     );
     grams(x2, factors.potential)

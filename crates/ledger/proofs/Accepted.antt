@@ -17,10 +17,11 @@ use Rattle.decay.specs.Series.{isKind}
 use Rattle.decay.proofs.Rule.{entry-below}
 use Rattle.waste.specs.Waste.{massLimit, carbonOf, rateOf, isClimate, isClass}
 use Rattle.record.specs.Fields.{recordBytes, periodOf, kindOf, climateOf, factorsOf, zerosOf, massOf, depositOf}
-use Rattle.record.specs.Ranges.{coded, inRange, light}
+use Rattle.record.specs.Ranges.{codes, coded, inRange, light}
 use Rattle.record.proofs.Laws.{mass-light}
-use Rattle.ledger.specs.Stock.{mostRecords, mostBrought, broughtAt, stockAt, entryAt, leftOf, newBrought, held, newStock, release, after}
-use Rattle.ledger.specs.Refusal.{sound, ceilingOf, continues, faultsOf, refusalOf}
+use Rattle.stock.specs.Stock.{mostRecords, mostBrought, entryAt, ceilingOf}
+use Rattle.ledger.specs.Stock.{leftOf, broughtAt, stockAt, newBrought, held, newStock, release, after}
+use Rattle.ledger.specs.Refusal.{sound, continues, faultsOf, refusalOf}
 use Rattle.ledger.specs.Take.{acceptedOf}
 use Rattle.ledger.specs.declared.book.Ledger.{Ledger}
 use Rattle.ledger.proofs.Sound.{Sound, sound-is, is-sound}
@@ -60,14 +61,13 @@ module _ (l : Ledger) (bytes : List ℕ) where
   accepted room e =
       let full = eqb-false (l .n) mostRecords (none l bytes room e 4) in
       let s = sound-is l (was-sound l bytes room e) in
-      let codes = all-true (isKind (kindOf bytes) ∷ isClimate (climateOf bytes) ∷ isClass (factorsOf bytes .class) ∷ eqb (zerosOf bytes) 0 ∷ [])
-      (not-false (coded bytes) (none l bytes room e 5)) in
+      let code = all-true (codes bytes) (not-false (coded bytes) (none l bytes room e 5)) in
       record {
         size = eqb-true (length bytes) recordBytes (not-false (eqb (length bytes) recordBytes) (none l bytes room e 1));
         ledger = s;
         more = omega (arith, full, s .few);
-        kind = codes .0;
-        climate = codes .1 .0;
+        kind = code .0;
+        climate = code .1 .0;
         period = eqb-true (periodOf bytes) (l .n + 1) (not-false (eqb (periodOf bytes) (l .n + 1)) (none l bytes room e 6));
         same = λ some.
             let both : continues l bytes ≡ true
@@ -112,11 +112,23 @@ module _ (l : Ledger) (bytes : List ℕ) (a : Accepted l bytes) (t : ℕ) (h : t
   unfolding release held newBrought
   release-most = omega (arith, a .ledger .at t h .kept)
 
+-- Inert waste, type 6, has a ceiling of 0, and so T, R and G of 0.
+pub record NoneAt (l : Ledger) (bytes : List ℕ) (t : ℕ) : Type 0 where
+  pub T : newBrought l bytes t ≡ 0
+  pub R : newStock l bytes t ≡ 0
+  pub G : release l bytes t ≡ 0
+
+pub no-carbon : (l : Ledger) (bytes : List ℕ) → Accepted l bytes → NoneAt l bytes 5
+unfolding ceilingOf carbonOf
+no-carbon l bytes a =
+    let T : newBrought l bytes 5 ≡ 0 = omega (arith, new-within l bytes a 5 (omega arith)) in
+    record { T = T; R = omega (arith, new-kept l bytes a 5 (omega arith)); G = omega (arith, release-most l bytes a 5 (omega arith)) }
+
 -- A sound ledger that takes a record is sound again.
 pub stays-sound : (l : Ledger) (bytes : List ℕ) → Accepted l bytes → sound (after l bytes) ≡ true
 unfolding after
 stays-sound l bytes a =
-    is-sound (after l bytes) (omega (arith, a .more)) (λ z. omega arith) (a .kind) (a .climate)
+    is-sound (after l bytes) (omega (arith, a .more)) (λ z. omega arith) (simp (a .kind, a .climate))
     (λ t h. rw (eight-at (newBrought l bytes) t h, eight-at (newStock l bytes) t h) (new-kept l bytes a t h, new-within l bytes a t h))
 
 -- The ledger of an accepted answer is sound.

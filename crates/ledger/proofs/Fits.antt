@@ -9,8 +9,9 @@ use Rattle.record.specs.Fields.{factorsOf}
 use Rattle.figure.proofs.Laws.{figure-most, bound-small}
 use Rattle.output.specs.declared.Output.{Output}
 use Rattle.output.proofs.Laws.{Fits, Says, says}
-use Rattle.ledger.specs.Stock.{mostBrought, broughtAt, stockAt, release, after}
-use Rattle.ledger.specs.Take.{x0Of, acceptedOf, totalStock, outputRecord, outputFields}
+use Rattle.stock.specs.Stock.{mostBrought}
+use Rattle.ledger.specs.Stock.{broughtAt, stockAt, release, after, x0Of}
+use Rattle.ledger.specs.Take.{acceptedOf, totalStock, outputRecord, outputFields}
 use Rattle.ledger.specs.declared.book.Ledger.{Ledger}
 use Rattle.ledger.proofs.Sound.{sound-is}
 use Rattle.ledger.proofs.Accepted.{Accepted, new-small, stays-sound}

@@ -9,7 +9,8 @@ use borrow.Author.Tests.{eq-eqb, ne-eqb}
 use lib.ListN.{length, take, drop, length-drop, length-append}
 use lib.Seq.{take-append-le, drop-append-le, take-all}
 use Rattle.record.specs.Fields.{recordBytes}
-use Rattle.ledger.specs.Stock.{mostRecords, after}
+use Rattle.stock.specs.Stock.{mostRecords}
+use Rattle.ledger.specs.Stock.{after}
 use Rattle.ledger.specs.Refusal.{refusalOf}
 use Rattle.ledger.specs.Take.{acceptedOf, takeOf, outputRecord}
 use Rattle.ledger.specs.History.{Offer, Turn, turnOf, turns, ledgerAfter, isAccepted, leading, ending, outputs, cut, recordsOf, inTurn, Run, runOf}
@@ -137,26 +138,29 @@ run-refused l (bytes ∷ xs) ys room some =
       | no e ↦ run-stops l bytes (xs ++ ys) room (refusalOf l bytes room) refl e ∙ sym (run-stops l bytes xs room (refusalOf l bytes room) refl e)
     ]
 
--- n counts the accepted records, which are no more than there are, and fewer where one is refused.
+-- n counts the accepted records, which are all that there are, or fewer where one is refused.
 pub record Counts (l : Ledger) (xs : List (List ℕ)) (r : Run) : Type 0 where
   pub n : r .ledger .n ≡ l .n + length (r .accepted)
   pub few : r .ledger .n ≤ mostRecords
-  pub some : length (r .accepted) ≤ length xs
+  pub all : r .refusal ≡ 0 → length (r .accepted) ≡ length xs
   pub fewer : (r .refusal ≡ 0 → ⊥) → length (r .accepted) < length xs
 
 pub run-counts : (l : Ledger) (xs : List (List ℕ)) (room : ℕ) → l .n ≤ mostRecords → Counts l xs (runOf l xs room)
 unfolding acceptedOf after
-run-counts l [] room h = rw (run-ends l room) (record { n = omega arith; few = h; some = omega arith; fewer = λ q. absurd (q refl) })
+run-counts l [] room h = rw (run-ends l room) (record { n = omega arith; few = h; all = λ q. refl; fewer = λ q. absurd (q refl) })
 run-counts l (bytes ∷ xs) room h =
     elim (ℕ-discrete (refusalOf l bytes room) 0) [
       | yes e ↦
           let more = accepted l bytes room e .more in
           let on = run-counts (acceptedOf l bytes .ledger) xs (room - recordBytes) (omega arith) in
           rw (run-goes-on l bytes xs room e)
-          (record { n = omega (arith, on .n); few = on .few; some = omega (arith, on .some); fewer = λ q. omega (arith, on .fewer q) })
+          (record { n = omega (arith, on .n); few = on .few; all = λ q. ap suc (on .all q); fewer = λ q. omega (arith, on .fewer q) })
       | no e ↦ rw (run-stops l bytes xs room (refusalOf l bytes room) refl e)
-          (record { n = omega arith; few = h; some = omega arith; fewer = λ q. omega arith })
+          (record { n = omega arith; few = h; all = λ q. absurd (e q); fewer = λ q. omega arith })
     ]
+
+pub run-most : (l : Ledger) (xs : List (List ℕ)) (r : Run) → Counts l xs r → length (r .accepted) ≤ length xs
+run-most l xs r c = elim (ℕ-discrete (r .refusal) 0) [ yes e ↦ omega (arith, c .all e) | no e ↦ omega (arith, c .fewer e) ]
 
 -- With room for every output record, how much room there is changes nothing.
 pub run-roomy : (l : Ledger) (xs : List (List ℕ)) (room more : ℕ) → recordBytes * length xs ≤ room → recordBytes * length xs ≤ more

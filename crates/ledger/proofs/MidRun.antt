@@ -11,7 +11,8 @@ use Rattle.numbers.specs.Eight.{eight, everyOf}
 use Rattle.numbers.proofs.Eight.{every-not, every-each}
 use Rattle.record.specs.Fields.{recordBytes, kindOf, climateOf}
 use Rattle.record.specs.Ranges.{light}
-use Rattle.ledger.specs.Stock.{entryAt, after}
+use Rattle.stock.specs.Stock.{entryAt}
+use Rattle.ledger.specs.Stock.{after}
 use Rattle.ledger.specs.Refusal.{sound, faultsOf, refusalOf}
 use Rattle.ledger.specs.Take.{acceptedOf, outputRecord}
 use Rattle.ledger.specs.History.{Turn, outputs, recordsOf, Run, runOf, outcomeOf, outOf}

@@ -3,7 +3,8 @@ use mathlib.Core.Path.{_≡_, _∙_}
 use mathlib.Core.List.{List}
 use Prim.Native.Nat.{ℕ, _+_, _-_}
 use Rattle.record.specs.Fields.{kindOf, climateOf, depositOf}
-use Rattle.ledger.specs.Stock.{broughtAt, stockAt, entryAt, leftOf, newBrought, held, newStock, release, decayedAt}
+use Rattle.stock.specs.Stock.{entryAt}
+use Rattle.ledger.specs.Stock.{leftOf, broughtAt, stockAt, newBrought, held, newStock, release, decayedAt}
 use Rattle.ledger.specs.declared.book.Ledger.{Ledger}
 
 pub decayed-is : (l : Ledger) (bytes : List ℕ) (t : ℕ) {D brings left : ℕ} → D ≡ entryAt (kindOf bytes) (climateOf bytes) t

@@ -1,10 +1,10 @@
 -- What a sound ledger holds of each type, and that a ledger of which all that holds is sound.
 use mathlib.Core.Path.{_≡_, refl, sym, _∙_}
-use mathlib.Core.Bool.{Bool, true, false, cond, _&&_, and-true, and-assoc}
+use mathlib.Core.Bool.{Bool, true, false, cond, _&&_, and-true, and-false, and-assoc}
 use mathlib.Core.List.{List, [], _∷_}
 use Prim.Native.Nat.{ℕ, zero, suc, _+_, _*_, _^_, _≤_, _<_}
 use native.Mathlib.Decide.{ℕ-discrete}
-use native.Mathlib.Nat.{mul-le-mul, zero-mul}
+use native.Mathlib.Nat.{zero-mul}
 use native.Mathlib.Omega.{arith}
 use borrow.Author.Tests.{eq-eqb, ne-eqb, le-leb, leb-true, eqb-true}
 use lib.Dec.{eqb, leb, leb·suc-zero, eqb·suc-zero}
@@ -12,10 +12,11 @@ use lib.ListN.{getD}
 use Rattle.numbers.specs.Eight.{everyOf, allOf}
 use Rattle.numbers.proofs.Eight.{both-true, all-true, every-at, every-each, every-same}
 use Rattle.decay.specs.Series.{isKind}
-use Rattle.waste.specs.Waste.{massLimit, mostCarbon, carbonOf, isClimate}
-use Rattle.waste.proofs.Laws.{carbon-most}
-use Rattle.ledger.specs.Stock.{mostRecords, mostBrought, broughtAt, stockAt}
-use Rattle.ledger.specs.Refusal.{sound, allZero, inOrder, emptyAt, withinAt, ceilingOf}
+use Rattle.waste.specs.Waste.{isClimate}
+use Rattle.stock.specs.Stock.{mostRecords, mostBrought, ceilingOf, withinOf}
+use Rattle.stock.proofs.Laws.{ceiling-most}
+use Rattle.ledger.specs.Stock.{broughtAt, stockAt}
+use Rattle.ledger.specs.Refusal.{sound, blank, inCode, allZero, inOrder, emptyAt, withinAt}
 use Rattle.ledger.specs.declared.book.Ledger.{Ledger}
 
 -- Of each type R is at most T, and T at most its ceiling, which is at most that of wood.
@@ -23,13 +24,6 @@ pub record WithinCeiling (l : Ledger) (t : ℕ) : Type 0 where
   pub kept : stockAt l t ≤ broughtAt l t
   pub ceiling : broughtAt l t ≤ ceilingOf (l .n) t
   pub small : broughtAt l t ≤ mostBrought
-
-ceiling-most : (n t : ℕ) → n ≤ mostRecords → ceilingOf n t ≤ mostBrought
-unfolding ceilingOf
-ceiling-most n t h =
-    let m : n * massLimit * carbonOf (t + 1) ≤ mostRecords * massLimit * mostCarbon
-    = mul-le-mul {n₂ = mostRecords * massLimit} {m₂ = mostCarbon} (omega arith) (carbon-most (t + 1)) in
-    omega arith
 
 within : (l : Ledger) (t : ℕ) → l .n ≤ mostRecords → stockAt l t ≤ broughtAt l t → broughtAt l t ≤ ceilingOf (l .n) t → WithinCeiling l t
 within l t few kept high = record { kept = kept; ceiling = high; small = omega (arith, ceiling-most (l .n) t few) }
@@ -43,9 +37,9 @@ pub record Sound (l : Ledger) : Type 0 where
 empty : (l : Ledger) → l .n ≤ mostRecords → l .n ≡ 0 → allZero l ≡ true → Sound l
 unfolding allZero emptyAt
 empty l few z e =
-    let p = all-true (eqb (l .kind) 0 ∷ eqb (l .climate) 0 ∷ everyOf (emptyAt l) 8 ∷ []) e in
+    let p = both-true (blank l) (everyOf (emptyAt l) 8) e in
     let at : (t : ℕ) → t < 8 → (broughtAt l t ≡ 0) × (stockAt l t ≡ 0)
-    = λ t h. let q = both-true (eqb (broughtAt l t) 0) (eqb (stockAt l t) 0) (every-at (emptyAt l) 8 t h (p .1 .1 .0)) in
+    = λ t h. let q = both-true (eqb (broughtAt l t) 0) (eqb (stockAt l t) 0) (every-at (emptyAt l) 8 t h (p .1)) in
     (eqb-true (broughtAt l t) 0 (q .0), eqb-true (stockAt l t) 0 (q .1)) in
     record {
       few = few;
@@ -55,15 +49,15 @@ empty l few z e =
 
 -- a ledger with some
 ordered : (l : Ledger) → l .n ≤ mostRecords → inOrder l ≡ true → Sound l
-unfolding inOrder withinAt
+unfolding inOrder withinAt withinOf
 ordered l few e =
-    let p = all-true (isKind (l .kind) ∷ isClimate (l .climate) ∷ everyOf (withinAt l) 8 ∷ []) e in
+    let p = both-true (inCode l) (everyOf (withinAt l) 8) e in
     let at : (t : ℕ) → t < 8 → (leb (broughtAt l t) (ceilingOf (l .n) t) ≡ true) × (leb (stockAt l t) (broughtAt l t) ≡ true)
-    = λ t h. both-true (leb (broughtAt l t) (ceilingOf (l .n) t)) (leb (stockAt l t) (broughtAt l t)) (every-at (withinAt l) 8 t h (p .1 .1 .0)) in
+    = λ t h. both-true (leb (broughtAt l t) (ceilingOf (l .n) t)) (leb (stockAt l t) (broughtAt l t)) (every-at (withinAt l) 8 t h (p .1)) in
     record {
       few = few;
       at = λ t h. within l t few (leb-true (stockAt l t) (broughtAt l t) (at t h .1)) (leb-true (broughtAt l t) (ceilingOf (l .n) t) (at t h .0));
-      coded = λ n. (p .0, p .1 .0);
+      coded = λ n. both-true (isKind (l .kind)) (isClimate (l .climate)) (p .0);
     }
 
 pub sound-is : (l : Ledger) → sound l ≡ true → Sound l
@@ -77,13 +71,13 @@ sound-is l e =
     ]
 
 -- A ledger with records, in order, is sound.
-pub is-sound : (l : Ledger) → l .n ≤ mostRecords → (l .n ≡ 0 → ⊥) → isKind (l .kind) ≡ true → isClimate (l .climate) ≡ true
+pub is-sound : (l : Ledger) → l .n ≤ mostRecords → (l .n ≡ 0 → ⊥) → inCode l ≡ true
     → ((t : ℕ) → t < 8 → (stockAt l t ≤ broughtAt l t) × (broughtAt l t ≤ ceilingOf (l .n) t)) → sound l ≡ true
-unfolding sound inOrder withinAt
-is-sound l few some kind climate at =
+unfolding sound inOrder withinAt withinOf
+is-sound l few some code at =
     let every : everyOf (withinAt l) 8 ≡ true
     = every-each (withinAt l) 8 (λ t h. simp (le-leb (broughtAt l t) (ceilingOf (l .n) t) (at t h .1), le-leb (stockAt l t) (broughtAt l t) (at t h .0))) in
-    simp (le-leb (l .n) mostRecords few, ne-eqb (l .n) 0 some, kind, climate, every)
+    simp (le-leb (l .n) mostRecords few, ne-eqb (l .n) 0 some, code, every)
 
 -- With no records T and R within a ceiling of 0 are T and R of 0, so one test over the types serves every sound ledger.
 none-within : (T R : ℕ) → (leb T 0 && leb R T) ≡ (eqb T 0 && eqb R 0)
@@ -92,14 +86,25 @@ none-within zero (suc R) = simp (leb·suc-zero, eqb·suc-zero)
 none-within (suc T) R = simp (leb·suc-zero, eqb·suc-zero)
 
 same : (l : Ledger) (t : ℕ) → l .n ≡ 0 → withinAt l t ≡ emptyAt l t
-unfolding withinAt emptyAt ceilingOf
+unfolding withinAt withinOf emptyAt ceilingOf
 same l t z = simp (z, zero-mul) (none-within (broughtAt l t) (stockAt l t))
 
-pub sound-tests : (l : Ledger) → l .n ≤ mostRecords
-    → sound l ≡ (cond (eqb (l .n) 0) (eqb (l .kind) 0 && eqb (l .climate) 0) (isKind (l .kind) && isClimate (l .climate)) && everyOf (withinAt l) 8)
-unfolding sound allZero inOrder
-sound-tests l few =
-    elim (ℕ-discrete (l .n) 0) [
-      | yes z ↦ simp (le-leb (l .n) mostRecords few, eq-eqb (l .n) 0 z, every-same (withinAt l) (emptyAt l) 8 (λ t h. same l t z), and-true, ← and-assoc)
-      | no z ↦ simp (le-leb (l .n) mostRecords few, ne-eqb (l .n) 0 z, and-true, ← and-assoc)
-    ]
+module _ (l : Ledger) where
+  abbrev codes : Bool
+  codes = cond (eqb (l .n) 0) (blank l) (inCode l)
+
+  -- the codes, and what every type may have, whatever n is
+  with-codes : sound l ≡ (leb (l .n) mostRecords && (codes && everyOf (withinAt l) 8))
+  unfolding sound allZero inOrder
+  with-codes =
+      elim (ℕ-discrete (l .n) 0) [
+        | yes z ↦ simp (eq-eqb (l .n) 0 z, every-same (withinAt l) (emptyAt l) 8 (λ t h. same l t z))
+        | no z ↦ simp (ne-eqb (l .n) 0 z)
+      ]
+
+  pub sound-tests : sound l ≡ (codes && (leb (l .n) mostRecords && everyOf (withinAt l) 8))
+  sound-tests = with-codes ∙ turned (leb (l .n) mostRecords) codes (everyOf (withinAt l) 8)
+    where
+      turned : (a b c : Bool) → (a && (b && c)) ≡ (b && (a && c))
+      turned true b c = refl
+      turned false b c = sym (and-false b)

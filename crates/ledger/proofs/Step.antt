@@ -6,15 +6,12 @@ use native.Mathlib.Nat.{mul-le-mul-left}
 use native.Mathlib.Omega.{arith}
 use lib.ListN.{getD}
 use Rattle.numbers.proofs.Eight.{eight-at}
-use Rattle.decay.proofs.Rule.{entry-below}
 use Rattle.record.specs.Fields.{kindOf, climateOf, depositOf}
-use Rattle.ledger.specs.Stock.{broughtAt, stockAt, entryAt, leftOf, newBrought, held, newStock, release, after}
+use Rattle.stock.specs.Stock.{entryAt}
+use Rattle.ledger.specs.Stock.{leftOf, broughtAt, stockAt, newBrought, held, newStock, release, after}
+use Rattle.stock.proofs.Laws.{entry-small}
 use Rattle.ledger.specs.Take.{acceptedOf}
 use Rattle.ledger.specs.declared.book.Ledger.{Ledger}
-
-pub entry-small : (kind climate t : ℕ) → entryAt kind climate t < 10 ^ 9
-unfolding entryAt
-entry-small kind climate t = entry-below kind _
 
 -- What is left is at most what was held.
 pub left-most : (H D : ℕ) → D < 10 ^ 9 → leftOf H D ≤ H

@@ -1,34 +1,38 @@
 -- Document 01, 'Refusal numbers, tested in this order'.
 use mathlib.Core.Bool.{Bool, not, cond, _&&_}
 use mathlib.Core.List.{List, [], _∷_}
-use Prim.Native.Nat.{ℕ, _+_, _*_}
+use Prim.Native.Nat.{ℕ, _+_}
 use lib.Dec.{eqb, leb, ltb}
 use lib.ListN.{length}
 use Rattle.numbers.specs.Eight.{everyOf, allOf}
 use Rattle.numbers.specs.Fault.{Fault, _when_, firstOf}
 use Rattle.decay.specs.Series.{isKind}
-use Rattle.waste.specs.Waste.{massLimit, carbonOf, isClimate}
+use Rattle.waste.specs.Waste.{isClimate}
 use Rattle.record.specs.Fields.{recordBytes, periodOf, kindOf, climateOf, factorsOf}
 use Rattle.record.specs.Ranges.{coded, inRange, light}
-use Rattle.ledger.specs.Stock.{mostRecords, broughtAt, stockAt}
+use Rattle.stock.specs.Stock.{mostRecords, withinOf}
+use Rattle.ledger.specs.Stock.{broughtAt, stockAt}
 use Rattle.ledger.specs.declared.book.Ledger.{Ledger}
 
 -- A ledger with n = 0 has every other field 0.
 unfoldable pub emptyAt : Ledger → ℕ → Bool
 emptyAt l t = eqb (broughtAt l t) 0 && eqb (stockAt l t) 0
 
+abbrev pub blank : Ledger → Bool
+blank l = eqb (l .kind) 0 && eqb (l .climate) 0
+
 unfoldable pub allZero : Ledger → Bool
-allZero l = allOf (eqb (l .kind) 0 ∷ eqb (l .climate) 0 ∷ everyOf (emptyAt l) 8 ∷ [])
+allZero l = blank l && everyOf (emptyAt l) 8
 
 -- With n > 0, kind and climate are codes, and of each type T is at most n × 10^9 × DOC × 100 and R at most T.
-unfoldable pub ceilingOf : (n t : ℕ) → ℕ
-ceilingOf n t = n * massLimit * carbonOf (t + 1) * 100
-
 unfoldable pub withinAt : Ledger → ℕ → Bool
-withinAt l t = leb (broughtAt l t) (ceilingOf (l .n) t) && leb (stockAt l t) (broughtAt l t)
+withinAt l t = withinOf (l .n) (broughtAt l t) (stockAt l t) t
+
+abbrev pub inCode : Ledger → Bool
+inCode l = isKind (l .kind) && isClimate (l .climate)
 
 unfoldable pub inOrder : Ledger → Bool
-inOrder l = allOf (isKind (l .kind) ∷ isClimate (l .climate) ∷ everyOf (withinAt l) 8 ∷ [])
+inOrder l = inCode l && everyOf (withinAt l) 8
 
 unfoldable pub sound : Ledger → Bool
 sound l = leb (l .n) mostRecords && cond (eqb (l .n) 0) (allZero l) (inOrder l)

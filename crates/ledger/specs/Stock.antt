@@ -2,20 +2,12 @@
 use mathlib.Core.List.{List}
 use Prim.Native.Nat.{ℕ, _+_, _-_, _*_, _/_, _^_}
 use lib.ListN.{getD}
-use Rattle.numbers.specs.Eight.{eight}
-use Rattle.decay.specs.Series.{entryOf}
-use Rattle.waste.specs.Waste.{rateOf}
-use Rattle.record.specs.Fields.{kindOf, climateOf, depositOf, mostDeposit}
+use Rattle.numbers.specs.Eight.{eight, sumOf}
+use Rattle.record.specs.Fields.{kindOf, climateOf, depositOf}
+use Rattle.stock.specs.Stock.{entryAt}
 use Rattle.ledger.specs.declared.book.Ledger.{Ledger}
-use Rattle.ledger.specs.declared.stock.Decayed.{Decayed}
-
--- At most 1200 records.
-abbrev pub mostRecords : ℕ
-mostRecords = 1200
-
--- The most that T of one type can be.
-abbrev pub mostBrought : ℕ
-mostBrought = mostRecords * mostDeposit
+use Rattle.ledger.specs.declared.period.Decayed.{Decayed}
+use Rattle.ledger.specs.declared.period.Period.{Period}
 
 -- A fresh ledger is all zero.
 unfoldable pub fresh : Ledger
@@ -27,10 +19,6 @@ broughtAt l t = getD (l .brought) t 0
 
 abbrev pub stockAt : Ledger → ℕ → ℕ
 stockAt l t = getD (l .stock) t 0
-
--- D, the table entry for the type's rate in a kind and climate.
-unfoldable pub entryAt : (kind climate t : ℕ) → ℕ
-entryAt kind climate t = entryOf kind (rateOf (t + 1) climate)
 
 -- R becomes H × D / 10^9 rounded down.
 unfoldable pub leftOf : (H D : ℕ) → ℕ
@@ -57,9 +45,13 @@ module _ (l : Ledger) (bytes : List ℕ) (t : ℕ) where
 unfoldable pub decayedAt : Ledger → List ℕ → (t : ℕ) → Decayed
 decayedAt l bytes t = record { brought = newBrought l bytes t; stock = newStock l bytes t; release = release l bytes t }
 
--- What a place has that is not there.
-abbrev pub nothing : Decayed
-nothing = record { brought = 0; stock = 0; release = 0 }
+-- x0 = the eight releases added.
+unfoldable pub x0Of : Ledger → List ℕ → ℕ
+x0Of l bytes = sumOf (release l bytes) 8
+
+-- What all of them have.
+unfoldable pub periodOfAll : Ledger → List ℕ → Period
+periodOfAll l bytes = record { brought = eight (newBrought l bytes); stock = eight (newStock l bytes); x0 = x0Of l bytes }
 
 -- n grows by one, kind and climate become the record's.
 unfoldable pub after : Ledger → List ℕ → Ledger

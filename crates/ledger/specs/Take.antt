@@ -9,15 +9,11 @@ use Rattle.record.specs.Fields.{recordBytes, factorsOf}
 use Rattle.figure.specs.Figure.{figureOf, BOf, boundOf}
 use Rattle.output.specs.Output.{outputOf}
 use Rattle.output.specs.declared.Output.{Output}
-use Rattle.ledger.specs.Stock.{broughtAt, stockAt, release, after}
+use Rattle.ledger.specs.Stock.{broughtAt, stockAt, release, x0Of, after}
 use Rattle.ledger.specs.Refusal.{refusalOf, sound}
 use Rattle.ledger.specs.declared.book.Ledger.{Ledger}
 use Rattle.ledger.specs.declared.answer.Answer.{Answer}
 use Rattle.ledger.specs.declared.answer.Totals.{Totals}
-
--- x0 = the eight releases added.
-unfoldable pub x0Of : Ledger → List ℕ → ℕ
-x0Of l bytes = sumOf (release l bytes) 8
 
 -- Accepted: the ledger after the record, the eight releases, x0, figure and bound, with n and T as they stand after the record.
 unfoldable pub acceptedOf : Ledger → List ℕ → Answer

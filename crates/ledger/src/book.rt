@@ -2,23 +2,24 @@
 ghost use mathlib.Core.Bool.{cond, _&&_};
 ghost use mathlib.Core.List.{_++_};
 ghost use mathlib.Core.Path.{_≡_};
-ghost use Prim.Native.Nat.{_≤_, _<_};
-ghost use lib.Dec.{eqb, leb};
+ghost use Prim.Native.Nat.{_<_};
+ghost use lib.Dec.{eqb};
 ghost use lib.ListN.{length, drop};
-ghost use Rattle.numbers.specs.Eight.{eight, everyOf};
+ghost use Rattle.numbers.specs.Eight.{eight};
 ghost use Rattle.numbers.specs.Fault.{firstOf, ahead};
 ghost use Rattle.decay.specs.Series.{isKind};
 ghost use Rattle.waste.specs.Waste.{isClimate};
-ghost use Rattle.record.specs.Fields.{kindOf, climateOf};
-ghost use Rattle.record.specs.Ranges.{light};
-ghost use Rattle.ledger.specs.Stock.{mostRecords, fresh, entryAt, newStock, release, decayedAt};
-ghost use Rattle.ledger.specs.Refusal.{ceilingOf, withinAt, sound, continues, faultsOf, refusalOf};
+ghost use Rattle.record.specs.Fields.{kindOf, climateOf, factorsOf};
+ghost use Rattle.stock.specs.Stock.{entryAt};
+ghost use Rattle.ledger.specs.Stock.{fresh, newStock, release, decayedAt, periodOfAll};
+ghost use Rattle.ledger.specs.Refusal.{blank, inCode, sound, continues, faultsOf, refusalOf};
 ghost use Rattle.ledger.specs.Take.{acceptedOf, refusedOf, outputRecord, takeOf, writtenOf, totalsOf};
 use crate::answer::Answer;
 use crate::answer::Totals;
 use crate::file;
-use crate::stock;
-use crate::stock::Decayed;
+use crate::period::Decayed;
+use crate::period::Period;
+use crate::period::left;
 use output::Output;
 use record::Factors;
 
@@ -32,30 +33,9 @@ pub struct Ledger {
     pub stock: [u64; 8],
 }
 
-// Tells whether the T and R of place t are within what n records can bring.
-fn is_within(n: u64, brought: u64, stock: u64, t: usize) -> bool
-    requires { ⌜ (n ≤ mostRecords) × (t < 8) ⌝ }
-    ensures { λ r. ⌜ r ≡ (leb brought (ceilingOf n t) && leb stock brought) ⌝ }
-{
-    let ceiling = n * Ledger::MASS_LIMIT * waste::carbon(t as u8 + 1) as u64 * 100;
-    (brought <= ceiling) & (stock <= brought)
-}
-
-// Tells whether every mass of a record is at most the limit.
-fn all_light(bytes: &[u8]) -> bool
-    ensures { λ r. ⌜ r ≡ everyOf (light (now (bytes .entry))) 8 ⌝ }
-{
-    for t in 0..8u8 {
-        if !record::is_light(bytes, t) {
-            return false;
-        }
-    }
-    true
-}
-
 impl Ledger {
     // The most records that a ledger takes.
-    pub const RECORDS: u16 = 1200;
+    pub const RECORDS: u16 = stock::RECORDS;
     // The bytes of a record, and of an output record.
     pub const BYTES: usize = record::BYTES;
     // The largest mass of one type in one record, in kilograms.
@@ -76,7 +56,7 @@ impl Ledger {
 
     // Tells whether kind and climate are zero with no records, and codes with some.
     fn is_coded(self) -> bool
-        ensures { λ r. ⌜ r ≡ cond (eqb (self .n) 0) (eqb (self .kind) 0 && eqb (self .climate) 0) (isKind (self .kind) && isClimate (self .climate)) ⌝ }
+        ensures { λ r. ⌜ r ≡ cond (eqb (self .n) 0) (blank self) (inCode self) ⌝ }
     {
         if self.n == 0 {
             return (self.kind == 0) & (self.climate == 0);
@@ -84,27 +64,13 @@ impl Ledger {
         decay::is_kind(self.kind) & waste::is_climate(self.climate)
     }
 
-    // Tells whether every T and R is within what n records can bring.
-    fn all_within(self) -> bool
-        requires { ⌜ self .n ≤ mostRecords ⌝ }
-        ensures { λ r. ⌜ r ≡ everyOf (withinAt self) 8 ⌝ }
-    {
-        for t in 0..8 {
-            if !is_within(self.n as u64, self.brought[t], self.stock[t], t) {
-                return false;
-            }
-        }
-        true
-    }
-
     // Tells whether the ledger is sound.
     pub fn is_sound(self) -> bool
         ensures { λ r. ⌜ r ≡ sound self ⌝ }
     {
-        if self.n > Ledger::RECORDS {
-            return false;
-        }
-        self.is_coded() & self.all_within()
+        let brought = self.brought;
+        let left = self.stock;
+        self.is_coded() & stock::are_within(self.n, brought, left)
     }
 
     // Tells whether a record has the ledger's kind and climate.
@@ -114,8 +80,10 @@ impl Ledger {
         (record::kind(bytes) == self.kind) & (record::climate(bytes) == self.climate)
     }
 
-    // Answers the refusal that everything ahead of the masses (9) decides, 0 if none; `good` says whether the ledger is sound.
-    pub(crate) fn early_refusal(self, good: bool, bytes: &[u8], room: usize) -> u8
+    // Answers the refusal that everything ahead of the masses (9) decides, 0 if none; `good` says whether the ledger is sound, and
+    // the factors are the record's.
+    pub(crate) fn early_refusal(self, good: bool, factors: Factors, bytes: &[u8], room: usize) -> u8
+        requires { ⌜ factors ≡ factorsOf (now bytes) ⌝ }
         ensures { λ r. ⌜ r ≡ firstOf (ahead 9 (faultsOf good self (now (bytes .entry)) room)) ⌝ }
     {
         if bytes.len() != Ledger::BYTES {
@@ -139,22 +107,8 @@ impl Ledger {
         if (self.n > 0) & !self.is_continued(bytes) {
             return 7;
         }
-        if !Factors::of(bytes).is_in_range() {
+        if !factors.is_in_range() {
             return 8;
-        }
-        0
-    }
-
-    // Answers the refusal of a record with room for so many bytes of output, 0 if none.
-    pub fn refusal(self, bytes: &[u8], room: usize) -> u8
-        ensures { λ r. ⌜ r ≡ refusalOf self (now (bytes .entry)) room ⌝ }
-    {
-        let early = self.early_refusal(self.is_sound(), bytes, room);
-        if early != 0 {
-            return early;
-        }
-        if !all_light(bytes) {
-            return 9;
         }
         0
     }
@@ -167,7 +121,7 @@ impl Ledger {
     {
         let deposit = record::deposit(bytes, t as u8);
         let held = self.stock[t] + deposit;
-        let left = stock::left(held, entries[t]);
+        let left = left(held, entries[t]);
         Decayed {
             brought: self.brought[t] + deposit,
             stock: left,
@@ -175,76 +129,84 @@ impl Ledger {
         }
     }
 
-    // Decays every type; each place is written out, so that no copy of the ledger is made for one known only at run time.
-    fn decay_all(self, entries: [u32; 8], bytes: &[u8]) -> [Decayed; 8]
+    // Decays every type but inert waste, which has no carbon; each place is written out, so that no copy of the ledger is made for
+    // one known only at run time.
+    fn decay_all(self, entries: [u32; 8], bytes: &[u8]) -> Period
         requires { ⌜ refusalOf self (now bytes) 48 ≡ 0 ⌝ }
         requires { ⌜ entries ≡ eight (entryAt (kindOf (now bytes)) (climateOf (now bytes))) ⌝ }
-        ensures { λ r. ⌜ r ≡ eight (decayedAt self (now (bytes .entry))) ⌝ }
+        ensures { λ r. ⌜ r ≡ periodOfAll self (now (bytes .entry)) ⌝ }
     {
-        [
-            self.decay(entries, bytes, 0),
-            self.decay(entries, bytes, 1),
-            self.decay(entries, bytes, 2),
-            self.decay(entries, bytes, 3),
-            self.decay(entries, bytes, 4),
-            self.decay(entries, bytes, 5),
-            self.decay(entries, bytes, 6),
-            self.decay(entries, bytes, 7),
-        ]
-    }
-
-    // Answers an accepted record, given the table entries of its kind and climate.
-    fn account(self, entries: [u32; 8], bytes: &[u8]) -> Answer
-        requires { ⌜ refusalOf self (now bytes) 48 ≡ 0 ⌝ }
-        requires { ⌜ entries ≡ eight (entryAt (kindOf (now bytes)) (climateOf (now bytes))) ⌝ }
-        ensures { λ r. ⌜ r ≡ acceptedOf self (now (bytes .entry)) ⌝ }
-    {
-        let all = self.decay_all(entries, bytes);
-        let brought = stock::brought(all);
-        let releases = stock::releases(all);
-        let x0 = stock::total(releases);
-        let factors = Factors::of(bytes);
-        let n = self.n + 1;
-        let ledger = Ledger {
-            n,
-            kind: record::kind(bytes),
-            climate: record::climate(bytes),
-            brought: brought,
-            stock: stock::stocks(all),
-        };
-        Answer {
-            ledger,
-            refusal: 0,
-            releases,
-            x0,
-            figure: figure::figure(factors, x0),
-            bound: figure::bound(factors, figure::margins(n, brought)),
+        let a = self.decay(entries, bytes, 0);
+        let b = self.decay(entries, bytes, 1);
+        let c = self.decay(entries, bytes, 2);
+        let d = self.decay(entries, bytes, 3);
+        let e = self.decay(entries, bytes, 4);
+        let g = self.decay(entries, bytes, 6);
+        let h = self.decay(entries, bytes, 7);
+        let early = a.release + b.release + c.release + d.release;
+        let later = e.release + g.release + h.release;
+        Period {
+            brought: [
+                a.brought,
+                b.brought,
+                c.brought,
+                d.brought,
+                e.brought,
+                0,
+                g.brought,
+                h.brought,
+            ],
+            stock: [
+                a.stock,
+                b.stock,
+                c.stock,
+                d.stock,
+                e.stock,
+                0,
+                g.stock,
+                h.stock,
+            ],
+            x0: early + later,
         }
     }
 
     // Enters an accepted record: answers the ledger after it, and writes its output record at the start of the output.
-    pub(crate) fn enter(self, entries: [u32; 8], bytes: &[u8], out: &mut [u8]) -> Ledger
-        requires { ⌜ refusalOf self (now bytes) (length (now out)) ≡ 0 ⌝ }
+    pub(crate) fn enter(
+        self,
+        entries: [u32; 8],
+        factors: Factors,
+        bytes: &[u8],
+        out: &mut [u8],
+    ) -> Ledger
+        requires { ⌜ (refusalOf self (now bytes) (length (now out)) ≡ 0) × (factors ≡ factorsOf (now bytes)) ⌝ }
         requires { ⌜ entries ≡ eight (entryAt (kindOf (now bytes)) (climateOf (now bytes))) ⌝ }
         ensures { λ r. ⌜ r ≡ acceptedOf self (now (bytes .entry)) .ledger ⌝ }
         ensures { λ _. ⌜ now (out .exit) ≡ outputRecord (acceptedOf self (now (bytes .entry))) ++ drop 48 (now (out .entry)) ⌝ }
     {
-        let answer = self.account(entries, bytes);
-        let after = answer.ledger;
-        let stock = after.stock;
-        let brought = after.brought;
+        let all = self.decay_all(entries, bytes);
+        let brought = all.brought;
+        let stock = all.stock;
+        let n = self.n + 1;
+        let kind = record::kind(bytes);
+        let climate = record::climate(bytes);
         let says = Output {
-            period: after.n,
-            kind: after.kind,
-            climate: after.climate,
-            x0: answer.x0,
-            figure: answer.figure,
-            bound: answer.bound,
+            period: n,
+            kind,
+            climate,
+            x0: all.x0,
+            figure: figure::figure(factors, all.x0),
+            bound: figure::bound(factors, figure::margins(n, brought)),
             stock: stock::total(stock),
             brought: stock::total(brought),
         };
         output::write(out, says);
-        after
+        Ledger {
+            n,
+            kind,
+            climate,
+            brought,
+            stock,
+        }
     }
 
     // Answers what each type releases by an accepted record that leaves so much: G = H - the new R.

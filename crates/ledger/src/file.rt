@@ -3,12 +3,12 @@ ghost use mathlib.Core.Path.{_≡_};
 ghost use lib.ListN.{length, take};
 ghost use Rattle.numbers.specs.Eight.{eight};
 ghost use Rattle.record.specs.Fields.{kindOf, climateOf};
-ghost use Rattle.ledger.specs.Stock.{entryAt};
+ghost use Rattle.stock.specs.Stock.{entryAt};
 ghost use Rattle.ledger.specs.Refusal.{refusalOf};
 ghost use Rattle.ledger.specs.History.{recordsOf, runOf, outcomeOf, outOf};
 use crate::answer::Outcome;
 use crate::book::Ledger;
-use crate::stock;
+use record::Factors;
 
 // How many records were accepted, and the refusal of the next one.
 struct End(u64, u8);
@@ -44,7 +44,8 @@ pub fn run(ledger: Ledger, records: &[u8], out: &mut [u8]) -> Outcome
             break 'records End(accepted, 1);
         }
         let bytes = &records[at..at + Ledger::BYTES];
-        let refusal = ledger.early_refusal(good, bytes, out.len() - at);
+        let factors = Factors::of(bytes);
+        let refusal = ledger.early_refusal(good, factors, bytes, out.len() - at);
         if refusal != 0 {
             break 'records End(accepted, refusal);
         }
@@ -53,7 +54,7 @@ pub fn run(ledger: Ledger, records: &[u8], out: &mut [u8]) -> Outcome
                 break 'records End(accepted, 9);
             }
         }
-        let next = ledger.enter(entries, bytes, &mut out[at..]);
+        let next = ledger.enter(entries, factors, bytes, &mut out[at..]);
         ledger = next;
         accepted += 1;
         at += Ledger::BYTES;

@@ -3,11 +3,10 @@
 mod answer;
 mod book;
 mod file;
-mod stock;
+mod period;
 
 pub use answer::Answer;
 pub use answer::Outcome;
 pub use answer::Totals;
 pub use book::Ledger;
 pub use file::run;
-pub use stock::entries;

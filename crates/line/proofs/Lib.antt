@@ -1,5 +1,6 @@
 pub mod Decimal
 pub mod Enough
 pub mod Line
-pub mod Reached
+pub mod Lines
+pub mod MidListing
 pub mod Writing

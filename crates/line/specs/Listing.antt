@@ -1,17 +1,18 @@
--- Document 01, 'Worked figures', last part: the listing of a file, from a fresh ledger and with room for every output record.
+-- Document 01, 'Worked figures', last part: the listing of a file, read off its run from a fresh ledger with room for every output
+-- record.
 use mathlib.Core.Path.{_≡_}
 use mathlib.Core.Bool.{cond}
 use mathlib.Core.List.{List, [], _∷_, _++_}
-use Prim.Native.Nat.{ℕ, _+_, _*_, _≤_}
+use Prim.Native.Nat.{ℕ, zero, suc, _+_, _-_, _*_, _≤_, _<_}
 use lib.Dec.{eqb, leb}
 use lib.ListN.{length, take, drop}
-use Rattle.ledger.specs.Fields.{recordBytes}
+use Rattle.numbers.specs.Bytes.{numberAt}
+use Rattle.record.specs.Fields.{recordBytes}
+use Rattle.stock.specs.Stock.{mostRecords}
 use Rattle.ledger.specs.Stock.{fresh}
-use Rattle.ledger.specs.Output.{totalStock}
-use Rattle.ledger.specs.Take.{takeOf}
-use Rattle.ledger.specs.declared.book.Ledger.{Ledger}
+use Rattle.ledger.specs.Take.{totalStock}
+use Rattle.ledger.specs.History.{Turn, recordsOf, Run, runOf}
 use Rattle.ledger.specs.declared.answer.Answer.{Answer}
-use Rattle.run.specs.Run.{recordsOf}
 use Rattle.line.specs.Line.{acceptedText, refusedText}
 use Rattle.line.specs.declared.file.Listed.{Listed}
 
@@ -19,21 +20,34 @@ use Rattle.line.specs.declared.file.Listed.{Listed}
 unfoldable pub answerText : Answer → List ℕ
 answerText a = acceptedText (a .ledger .n) (a .x0) (a .figure) (a .bound) (totalStock (a .ledger))
 
--- For each accepted record its line; at a refusal its line, with the record's place, and no more.
-unfoldable pub listingFrom : Ledger → (place : ℕ) → List (List ℕ) → List ℕ
-listingFrom l place [] = []
-listingFrom l place (bytes ∷ rest) =
-    cond (eqb (takeOf l bytes recordBytes .refusal) 0)
-    (answerText (takeOf l bytes recordBytes) ++ listingFrom (takeOf l bytes recordBytes .ledger) (place + 1) rest)
-    (refusedText (takeOf l bytes recordBytes .refusal) place)
+-- For each accepted record its line;
+unfoldable pub linesOf : List Turn → List ℕ
+linesOf [] = []
+linesOf (turn ∷ rest) = answerText (turn .answer) ++ linesOf rest
+
+-- at a refusal its line, with the record's place, and no more.
+unfoldable pub endText : (refusal place : ℕ) → List ℕ
+endText refusal place = cond (eqb refusal 0) [] (refusedText refusal place)
+
+-- The listing of a run whose first record has a place.
+unfoldable pub runText : (place : ℕ) → Run → List ℕ
+runText place r = linesOf (r .accepted) ++ endText (r .refusal) (place + length (r .accepted))
+
+-- A run with room for every output record.
+unfoldable pub wholeRun : (file : List ℕ) → Run
+wholeRun file = runOf fresh (recordsOf file) (recordBytes * length (recordsOf file))
 
 -- The listing of a file; places count from 1.
 unfoldable pub listingOf : (file : List ℕ) → List ℕ
-listingOf file = listingFrom fresh 1 (recordsOf file)
+listingOf file = runText 1 (wholeRun file)
 
--- A line has at most 90 bytes, so a text has room that has 90 for every record.
+-- A ledger takes 1200 records, so record 1201 is refused at the latest: there are no more lines than that, nor than records.
+unfoldable pub mostLines : (records : ℕ) → ℕ
+mostLines records = cond (leb records (mostRecords + 1)) records (mostRecords + 1)
+
+-- A line has at most 90 bytes, so a text has room that has 90 for every line.
 unfoldable pub roomFor : (file : List ℕ) → ℕ
-roomFor file = 90 * length (recordsOf file)
+roomFor file = 90 * mostLines (length (recordsOf file))
 
 -- With room, the length of the listing; without, the refusal 2.
 unfoldable pub listedOf : (file : List ℕ) (room : ℕ) → Listed
@@ -47,5 +61,22 @@ unfoldable pub textOf : (file text : List ℕ) → List ℕ
 textOf file text = cond (leb (roomFor file) (length text)) (listingOf file ++ drop (length (listingOf file)) text) text
 
 -- What a caller needs to lend the listing, `&text[..length]`; it follows from `listedOf` and `textOf`.
-abbrev pub Within : (len : ℕ) (text : List ℕ) → Type 0
-Within len text = (len ≤ length text) × (len ≡ length (take len text))
+abbrev pub LendableText : (len : ℕ) (text : List ℕ) → Type 0
+LendableText len text = (len ≤ length text) × (len ≡ length (take len text))
+
+-- The line that an output record says, and the lines of k output records one after another.
+unfoldable pub outputText : List ℕ → List ℕ
+outputText bytes =
+    acceptedText (numberAt 2 bytes 0) (numberAt 8 bytes 8) (numberAt 8 bytes 16) (numberAt 8 bytes 24) (numberAt 8 bytes 32)
+
+unfoldable pub outputLines : List ℕ → ℕ → List ℕ
+outputLines bytes zero = []
+outputLines bytes (suc k) = outputText bytes ++ outputLines (drop recordBytes bytes) k
+
+-- A stretch of a file from a place: 32 records, or what is left.
+pub record Stretch (file : List ℕ) (at end : ℕ) : Type 0 where
+  pub in-file : end ≤ length file
+  pub on : at ≤ end
+  pub part : take (end - at) (drop at file) ≡ take 1536 (drop at file)
+  pub rest : drop end file ≡ drop 1536 (drop at file)
+  pub far : at < length file → at < end

@@ -1,17 +1,19 @@
 // The listing of a whole file.
-ghost use mathlib.Core.Bool.{true};
 ghost use mathlib.Core.Path.{_≡_};
-ghost use Prim.Native.Nat.{_+_, _≤_};
+ghost use Prim.Native.Nat.{_+_, _*_, _/_, _≤_, _<_};
 ghost use lib.ListN.{length, take, drop};
-ghost use Rattle.ledger.specs.Refusal.{sound};
-ghost use Rattle.ledger.specs.Take.{takeOf};
 ghost use Rattle.line.specs.Line.{padded, Lendable};
-ghost use Rattle.line.specs.Listing.{answerText, listedOf, textOf, Within};
+ghost use Rattle.line.specs.Listing.{mostLines, outputText, outputLines, listedOf, textOf, LendableText, Stretch};
 ghost use Rattle.line.specs.Writing.{Writes};
 use crate::form::Line;
 use crate::text::words;
-use ledger::Answer;
 use ledger::Ledger;
+
+// A file is run in stretches of so many bytes, so that what a run looks up once is paid once a stretch.
+const STRETCH: usize = 32 * Ledger::BYTES;
+
+// The most lines that a file can have: one more than a ledger takes records.
+const LINES: usize = Ledger::RECORDS as usize + 1;
 
 // How many bytes the listing has, and the refusal: 2 where the text has too little room, else 0.
 pub struct Listed {
@@ -19,32 +21,26 @@ pub struct Listed {
     pub refusal: u8,
 }
 
-// Takes the record that starts at a place of a file, with room for its output record.
-fn take_at(ledger: Ledger, file: &[u8], at: usize) -> Answer
-    requires { ⌜ at ≤ length (now file) ⌝ }
-    ensures { λ r. ⌜ r ≡ takeOf ledger (take 48 (drop at (now (file .entry)))) 48 ⌝ }
+// Answers the most lines that so many bytes of records can have.
+fn most_lines(bytes: usize) -> usize
+    ensures { λ r. ⌜ (r ≡ mostLines ((bytes + 47) / 48)) × (r ≤ 1201) ⌝ }
 {
-    let mut room = [0u8; 48];
-    if file.len() - at < Ledger::BYTES {
-        return ledger.take(&file[at..], &mut room);
-    }
-    ledger.take(&file[at..at + 48], &mut room)
+    let begun = bytes / 48 + (bytes % 48 + 47) / 48;
+    if begun <= LINES { begun } else { LINES }
 }
 
-// Answers the line of an accepted record's answer.
-fn line_of(answer: Answer) -> Line
-    requires { ⌜ sound (answer .ledger) ≡ true ⌝ }
-    ensures { λ r. ⌜ r ≡ padded (answerText answer) ⌝ }
+// Answers the line of the output record at a place.
+fn line_at(out: &[u8], at: usize) -> Line
+    requires { ⌜ at + 48 ≤ length (now out) ⌝ }
+    ensures { λ r. ⌜ r ≡ padded (outputText (drop at (now (out .entry)))) ⌝ }
     ensures { λ r. ⌜ Lendable r ⌝ }
 {
-    let ledger = answer.ledger;
-    let totals = ledger.totals();
     crate::accepted(
-        ledger.n,
-        answer.x0,
-        answer.figure,
-        answer.bound,
-        totals.stock,
+        numbers::read_u16(out, at) as u16,
+        numbers::read_u64(out, at + 8),
+        numbers::read_u64(out, at + 16),
+        numbers::read_u64(out, at + 24),
+        numbers::read_u64(out, at + 32),
     )
 }
 
@@ -59,38 +55,62 @@ fn put(text: &mut [u8], at: usize, line: Line) -> usize
     words(text, at, &bytes[..len])
 }
 
-// Writes the listing of a file, from a fresh ledger, at the start of the text; the text needs 90 bytes for every record begun,
-// and with less it is refused with 2 and keeps its values.
+// Writes the lines of so many output records from a place on, and answers the place after them.
+fn put_lines(text: &mut [u8], at: usize, out: &[u8], count: u64) -> usize
+    requires { ⌜ (48 * count ≤ length (now out)) × (at + 90 * count ≤ length (now text)) ⌝ }
+    ensures { λ r. ⌜ Writes (now (text .entry)) at (outputLines (now (out .entry)) count) (now (text .exit)) r ⌝ }
+    ensures { λ r. ⌜ r ≤ at + 90 * count ⌝ }
+{
+    let mut end = at;
+    let mut i: u64 = 0;
+    while i < count {
+        end = put(text, end, line_at(out, 48 * i as usize));
+        i += 1;
+    }
+    end
+}
+
+// Answers where the stretch that starts at a place ends.
+fn stretch_end(file: &[u8], at: usize) -> usize
+    requires { ⌜ at ≤ length (now file) ⌝ }
+    ensures { λ r. ⌜ Stretch (now (file .entry)) at r ⌝ }
+{
+    if file.len() - at < STRETCH {
+        return file.len();
+    }
+    at + STRETCH
+}
+
+// Writes the listing of a file, from a fresh ledger, at the start of the text; the text needs 90 bytes for every line that there
+// can be, and with less it is refused with 2 and keeps its values.
 pub fn listing(file: &[u8], text: &mut [u8]) -> Listed
     ensures { λ r. ⌜ r ≡ listedOf (now (file .entry)) (length (now (text .entry))) ⌝ }
     ensures { λ _. ⌜ now (text .exit) ≡ textOf (now (file .entry)) (now (text .entry)) ⌝ }
-    ensures { λ r. ⌜ Within (r .length) (now (text .exit)) ⌝ }
+    ensures { λ r. ⌜ LendableText (r .length) (now (text .exit)) ⌝ }
 {
-    let begun = file.len() / 48 + (file.len() % 48 + 47) / 48;
-    if text.len() / 90 < begun {
+    if text.len() < 90 * most_lines(file.len()) {
         return Listed {
             length: 0,
             refusal: 2,
         };
     }
+    let mut out = [0u8; STRETCH];
     let mut ledger = Ledger::fresh();
     let mut at: usize = 0;
     let mut place: u64 = 1;
     let mut length: usize = 0;
     while at < file.len() {
-        let answer = take_at(ledger, file, at);
-        if answer.refusal != 0 {
-            let end = put(text, length, crate::refused(answer.refusal, place));
-            return Listed {
-                length: end,
-                refusal: 0,
-            };
+        let end = stretch_end(file, at);
+        let ran = ledger::run(ledger, &file[at..end], &mut out);
+        length = put_lines(text, length, &out, ran.accepted);
+        place += ran.accepted;
+        if ran.refusal != 0 {
+            length = put(text, length, crate::refused(ran.refusal, place));
+            return Listed { length, refusal: 0 };
         }
-        length = put(text, length, line_of(answer));
-        let next = answer.ledger;
+        let next = ran.ledger;
         ledger = next;
-        at += Ledger::BYTES;
-        place += 1;
+        at = end;
     }
     Listed { length, refusal: 0 }
 }

@@ -2,4 +2,5 @@ pub mod Bytes
 pub mod Eight
 pub mod Fault
 pub mod Fraction
+pub mod Lists
 pub mod Split

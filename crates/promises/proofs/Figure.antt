@@ -1,6 +1,5 @@
 -- Each line of the chain multiplies by at most 1 and rounds down, so it adds less than 1 to what the releases are off by; the last
 -- line multiplies by at most 2/15, which the 3 of the bound covers.
-use mathlib.Core.List.{List}
 use Prim.Native.Nat.{ℕ, zero, suc, _+_, _-_, _*_, _/_, _^_, _≤_, _<_}
 use native.Mathlib.Nat.{mul-le-mul, mul-le-mul-left, mul-le-mul-right, sub-le}
 use native.Mathlib.Omega.{arith}
@@ -8,12 +7,11 @@ use Rattle.numbers.specs.Eight.{sumOf}
 use Rattle.numbers.specs.Fraction.{Fraction, over, whole, _⊕_, _⊗_, _≼_, _≺_, total}
 use Rattle.waste.specs.Waste.{correctionOf}
 use Rattle.waste.proofs.Laws.{correction-most}
-use Rattle.ledger.specs.Fields.{factorOf, OXOf, FOf, DOCfOf, classOf, GWPOf, capturedOf}
-use Rattle.ledger.specs.Figure.{x1Of, x2Of, gramsOf, figureOf, boundOf}
-use Rattle.ledger.specs.declared.book.Ledger.{Ledger}
+use Rattle.record.specs.declared.factors.Factors.{Factors}
+use Rattle.record.proofs.Laws.{Ranged}
+use Rattle.figure.specs.Figure.{x1Of, x2Of, gramsOf, figureOf, boundOf}
 use Rattle.promises.specs.Exact.{exactFigureOf}
-use Rattle.promises.specs.Promises.{Within}
-use Rattle.promises.proofs.Accepted.{Accepted}
+use Rattle.promises.specs.Promises.{WithinBound}
 use Rattle.promises.proofs.Release.{Beside}
 
 -- sums of fractions, each beside a whole number
@@ -60,25 +58,25 @@ module _ (r : Fraction) (x B W : ℕ) (most : W ≤ 100) where
       let floor : 3000 * (x * 4 * W / 3000) ≤ x * 4 * W = omega arith in
       omega (arith, mul-le-mul-right (4 * W) h, mul-le-mul-right (r .den) floor, mul-le-mul-right (r .den) floor-B, r .pos)
 
--- the chain, with the factors of an accepted record
-module _ (l : Ledger) (bytes : List ℕ) (ok : Accepted l bytes) (r : Fraction) (x B : ℕ) where
+-- the chain, with factors that are within their ranges
+module _ (v : Factors) (ok : Ranged v) (r : Fraction) (x B : ℕ) where
   abbrev c1 : ℕ
-  c1 = factorOf bytes * (10000 - capturedOf bytes)
+  c1 = v .factor * (10000 - v .captured)
 
   abbrev c2 : ℕ
-  c2 = (100 - OXOf bytes) * FOf bytes * DOCfOf bytes * correctionOf (classOf bytes)
+  c2 = (100 - v .oxidation) * v .methane * v .docf * correctionOf (v .class)
 
   c1-most : c1 ≤ 10 ^ 6
-  c1-most = mul-le-mul (ok .factor-most) (sub-le 10000 (capturedOf bytes))
+  c1-most = mul-le-mul (ok .factor) (sub-le 10000 (v .captured))
 
   c2-most : c2 ≤ 10 ^ 8
-  c2-most = mul-le-mul (mul-le-mul (mul-le-mul (sub-le 100 (OXOf bytes)) (ok .F-most)) (ok .DOCf-most)) (correction-most (classOf bytes))
+  c2-most = mul-le-mul (mul-le-mul (mul-le-mul (sub-le 100 (v .oxidation)) (ok .methane)) (ok .docf)) (correction-most (v .class))
 
   abbrev x1 : ℕ
-  x1 = x * factorOf bytes * (10000 - capturedOf bytes) / 10 ^ 6
+  x1 = x * v .factor * (10000 - v .captured) / 10 ^ 6
 
   abbrev x2 : ℕ
-  x2 = x1 * (100 - OXOf bytes) * FOf bytes * DOCfOf bytes * correctionOf (classOf bytes) / 10 ^ 8
+  x2 = x1 * (100 - v .oxidation) * v .methane * v .docf * correctionOf (v .class) / 10 ^ 8
 
   abbrev r1 : Fraction
   r1 = r ⊗ over c1 (10 ^ 6) (omega arith)
@@ -87,19 +85,19 @@ module _ (l : Ledger) (bytes : List ℕ) (ok : Accepted l bytes) (r : Fraction) 
   r2 = r1 ⊗ over c2 (10 ^ 8) (omega arith)
 
   below : r ≼ whole x ⊕ whole B
-      → r2 ⊗ over (4 * GWPOf bytes) 3000 (omega arith) ≺ whole (x2 * 4 * GWPOf bytes / 3000) ⊕ whole (3 + B * 4 * GWPOf bytes / 3000)
+      → r2 ⊗ over (4 * v .potential) 3000 (omega arith) ≺ whole (x2 * 4 * v .potential / 3000) ⊕ whole (3 + B * 4 * v .potential / 3000)
   below h =
-      last-below r2 x2 B (GWPOf bytes) (ok .GWP-most)
+      last-below r2 x2 B (v .potential) (ok .potential)
       (line-below r1 x1 (B + 1) c2 (10 ^ 8) x2 (omega arith) c2-most (omega arith)
       (line-below r x B c1 (10 ^ 6) x1 (omega arith) c1-most (omega arith) h))
 
   above : whole x ≼ r ⊕ whole B
-      → whole (x2 * 4 * GWPOf bytes / 3000) ≺ r2 ⊗ over (4 * GWPOf bytes) 3000 (omega arith) ⊕ whole (3 + B * 4 * GWPOf bytes / 3000)
+      → whole (x2 * 4 * v .potential / 3000) ≺ r2 ⊗ over (4 * v .potential) 3000 (omega arith) ⊕ whole (3 + B * 4 * v .potential / 3000)
   above h =
-      last-above r2 x2 B (GWPOf bytes) (ok .GWP-most)
+      last-above r2 x2 B (v .potential) (ok .potential)
       (line-above r1 x1 B c2 (10 ^ 8) x2 (omega arith) c2-most (omega arith)
       (line-above r x B c1 (10 ^ 6) x1 (omega arith) c1-most (omega arith) h))
 
-  pub chain : Beside r x B → Within (exactFigureOf bytes r) (figureOf bytes x) (boundOf bytes B)
+  pub chain : Beside r x B → WithinBound (exactFigureOf v r) (figureOf v x) (boundOf v B)
   unfolding exactFigureOf figureOf x1Of x2Of gramsOf boundOf
   chain near = record { exact-below = omega (arith, below (near .below)); figure-below = omega (arith, above (near .above)) }

@@ -10,20 +10,25 @@ use lib.ListN.{length, List·getD-append}
 use lib.Seq.{getD-at}
 use Rattle.numbers.specs.Eight.{sumOf}
 use Rattle.numbers.specs.Fraction.{Fraction, total}
-use Rattle.ledger.specs.Stock.{release, broughtAt, after}
-use Rattle.ledger.specs.Figure.{x0Of, marginOf, BOf}
+use Rattle.numbers.specs.Lists.{Each}
+use Rattle.numbers.proofs.Fraction.{total-same}
+use Rattle.numbers.proofs.Lists.{length-more, each-map, each-more}
+use Rattle.record.specs.Fields.{factorsOf}
+use Rattle.record.proofs.Laws.{ranged}
+use Rattle.figure.specs.Figure.{marginOf, BOf}
+use Rattle.ledger.specs.Stock.{broughtAt, release, x0Of, after}
 use Rattle.ledger.specs.Refusal.{refusalOf}
 use Rattle.ledger.specs.Take.{acceptedOf}
+use Rattle.ledger.specs.History.{Turn}
 use Rattle.ledger.specs.declared.book.Ledger.{Ledger}
 use Rattle.ledger.specs.declared.answer.Answer.{Answer}
-use Rattle.promises.specs.Offer.{Outcome, taken}
+use Rattle.ledger.proofs.Accepted as step
+use Rattle.ledger.proofs.History.{acceptedTurn}
+use Rattle.promises.specs.Offering.{Offering, recordsIn}
 use Rattle.promises.specs.Exact.{inert, exactRelease, exactReleaseAt, exactFigure}
-use Rattle.promises.specs.Promises.{Each, Chosen, Within}
-use Rattle.promises.proofs.Lists.{length-more, each-map, each-more}
-use Rattle.promises.proofs.Fractions.{total-same}
-use Rattle.promises.proofs.Accepted.{accepted}
-use Rattle.promises.proofs.Reached.{Reached, none, more, counted, answered-each, conserved}
-use Rattle.promises.proofs.Stocks.{earlier, before, Alike, alike-before, near, both-next}
+use Rattle.promises.specs.Promises.{Chosen, WithinBound}
+use Rattle.promises.proofs.OneByOne.{OneByOne, none-yet, one-more, records-more, n-counts, conserved}
+use Rattle.promises.proofs.Stocks.{earlier, before, all-counted, Alike, alike-before, near, both-next}
 use Rattle.promises.proofs.Release.{Beside, beside-inert, beside-decaying}
 use Rattle.promises.proofs.Figure.{beside-sums, chain}
 
@@ -47,12 +52,12 @@ module _ (d : ℕ → Fraction) (records : List (List ℕ)) (bytes : List ℕ) (
       )
 
 -- the newest record's figure
-module _ (d : ℕ → Fraction) (o : Outcome) (bytes : List ℕ) (room : ℕ) (r : Reached o) (e : refusalOf (o .ledger) bytes room ≡ 0) (chosen : Chosen (after (o .ledger) bytes) d) where
+module _ (d : ℕ → Fraction) (o : Offering) (bytes : List ℕ) (room : ℕ) (r : OneByOne o) (e : refusalOf (o .ledger) bytes room ≡ 0) (chosen : Chosen (after (o .ledger) bytes) d) where
   abbrev count : ℕ
   count = suc (length (o .accepted))
 
   abbrev records : List (List ℕ)
-  records = o .accepted ++ (bytes ∷ [])
+  records = recordsIn o ++ (bytes ∷ [])
 
   abbrev margin : ℕ → ℕ
   margin t = marginOf count (broughtAt (after (o .ledger) bytes) t)
@@ -70,31 +75,33 @@ module _ (d : ℕ → Fraction) (o : Outcome) (bytes : List ℕ) (room : ℕ) (r
   abbrev answer : Answer
   answer = acceptedOf (o .ledger) bytes
 
-  newest-within : Within (exactFigure d records count) (answer .figure) (answer .bound)
+  newest-within : WithinBound (exactFigure d records count) (answer .figure) (answer .bound)
   unfolding exactFigure acceptedOf x0Of BOf after
   newest-within =
-      let back : count - 1 ≡ length (o .accepted) = omega arith in
-      let n : o .ledger .n + 1 ≡ count = rw (counted o r, add-one) in
-      rw (back, getD-at (o .accepted) bytes [] [] (length (o .accepted)) refl, n)
-      (chain (o .ledger) bytes (accepted (o .ledger) bytes room e) (total (exactReleaseAt d records count) 8) (sumOf (release (o .ledger) bytes) 8) (sumOf margin 8)
+      let back : count - 1 ≡ length (recordsIn o) = rw (all-counted o) (omega arith) in
+      let n : o .ledger .n + 1 ≡ count = rw (n-counts o r, add-one) in
+      rw (back, getD-at (recordsIn o) bytes [] [] (length (recordsIn o)) refl, n)
+      (chain (factorsOf bytes) (ranged (factorsOf bytes) (step.accepted (o .ledger) bytes room e .ranges))
+      (total (exactReleaseAt d records count) 8) (sumOf (release (o .ledger) bytes) 8) (sumOf margin 8)
       (beside-sums (exactReleaseAt d records count) (release (o .ledger) bytes) margin 8 beside-exact))
 
 -- the answer to record i
-abbrev pub Published : (d : ℕ → Fraction) → Outcome → (i : ℕ) → Answer → Type 0
-Published d o i answer = Within (exactFigure d (o .accepted) i) (answer .figure) (answer .bound)
+abbrev pub Published : (d : ℕ → Fraction) → List (List ℕ) → (i : ℕ) → Turn → Type 0
+Published d records i turn = WithinBound (exactFigure d records i) (turn .answer .figure) (turn .answer .bound)
 
-pub published : (L : Ledger) (d : ℕ → Fraction) → Chosen L d → (o : Outcome) → Reached o → Alike L o
-    → Each (Published d o) 1 (o .answers)
-unfolding acceptedOf after
-published L d chosen _ none alike = tt
-published L d chosen _ (more o bytes room r e) alike =
-    let same = alike (rw (length-more (o .accepted) bytes) (omega arith)) in
+pub published : (L : Ledger) (d : ℕ → Fraction) → Chosen L d → (o : Offering) → OneByOne o → Alike L o
+    → Each (Published d (recordsIn o)) 1 (o .accepted)
+unfolding after
+published L d chosen _ none-yet alike = tt
+published L d chosen _ (one-more o bytes room r e) alike =
+    let turn = acceptedTurn (o .ledger) bytes in
+    let same = alike (rw (length-more (o .accepted) turn) (omega arith)) in
     let here : Chosen (after (o .ledger) bytes) d = rw (same .0, same .1) at chosen in
-    let next = taken o bytes (acceptedOf (o .ledger) bytes) in
-    let answers : length (o .answers) ≡ length (o .accepted) = answered-each o r in
-    let last : 1 + length (o .answers) ≡ suc (length (o .accepted)) = omega arith in
-    each-more (Published d next) 1 (o .answers) (acceptedOf (o .ledger) bytes)
-    (each-map (Published d o) (Published d next) 1 (o .answers)
-    (λ i answer low high p. rw (figure-kept d (o .accepted) bytes i low (omega arith)) p)
+    let records = recordsIn o ++ (bytes ∷ []) in
+    let last : 1 + length (o .accepted) ≡ suc (length (o .accepted)) = omega arith in
+    rw (records-more o bytes)
+    (each-more (Published d records) 1 (o .accepted) turn
+    (each-map (Published d (recordsIn o)) (Published d records) 1 (o .accepted)
+    (λ i turn low high p. rw (figure-kept d (recordsIn o) bytes i low (rw (all-counted o) (omega arith))) p)
     (published (after (o .ledger) bytes) d here o r (alike-before o bytes room r e)))
-    (rw last (newest-within d o bytes room r e here))
+    (rw last (newest-within d o bytes room r e here)))

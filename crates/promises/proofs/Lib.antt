@@ -1,14 +1,12 @@
-pub mod Fractions
-pub mod Lists
-pub mod Accepted
-pub mod Step
-pub mod Reached
+pub mod Offering
+pub mod OneByOne
 pub mod Stock
 pub mod Stocks
 pub mod Release
 pub mod Figure
 pub mod Figures
 pub mod WholeRun
+pub mod OneRun
 pub mod Worked
 pub mod Proved
 pub mod OneAnswer

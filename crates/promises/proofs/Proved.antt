@@ -1,26 +1,36 @@
 -- The promises, proved.
-use mathlib.Core.Path.{_≡_, refl, sym, _∙_}
+use mathlib.Core.Path.{_≡_, refl, sym, ap, _∙_}
 use mathlib.Core.Bool.{Bool, true, false, _&&_, _||_}
-use Prim.Native.Nat.{ℕ, _+_, _-_, _≤_, _<_}
+use mathlib.Core.List.{List}
+use Prim.Native.Nat.{ℕ, _+_, _-_, _*_, _≤_, _<_}
 use native.Mathlib.Omega.{arith}
 use borrow.Author.Tests.{eqb-true, leb-true}
 use lib.Dec.{leb}
+use lib.ListN.{length}
 use Rattle.numbers.specs.Eight.{everyOf}
 use Rattle.numbers.proofs.Eight.{both-true, every-at}
 use Rattle.numbers.specs.Fraction.{Fraction}
 use Rattle.decay.proofs.Laws.{stands-for-sums}
-use Rattle.waste.specs.Waste.{rateOf}
-use Rattle.ledger.specs.Stock.{broughtAt, stockAt, entryAt}
-use Rattle.ledger.specs.Refusal.{between}
-use Rattle.run.specs.Run.{recordsOf}
-use Rattle.promises.specs.Offer.{Outcome, offering}
+use Rattle.waste.specs.Waste.{rateOf, climates, isClimate}
+use Rattle.record.specs.Fields.{recordBytes}
+use Rattle.stock.specs.Stock.{entryAt}
+use Rattle.ledger.specs.Stock.{fresh, broughtAt, stockAt, after}
+use Rattle.ledger.specs.Take.{takeOf, acceptedOf, outputFields}
+use Rattle.ledger.specs.History.{recordsOf, runOf}
+use Rattle.ledger.specs.declared.book.Ledger.{Ledger}
+use Rattle.ledger.proofs.Accepted as step
+use Rattle.ledger.proofs.Take.{taken, take-refusal}
+use Rattle.ledger.proofs.History.{run-roomy}
+use Rattle.line.specs.Listing.{answerText, runText, wholeRun, listingOf}
+use Rattle.promises.specs.Offering.{Offering, offering, recordsIn}
 use Rattle.promises.specs.Exact.{inert, exactStockAt}
-use Rattle.promises.specs.Promises.{NoCarbon, Chosen, CloseTo, sums, DemandThree, Promises}
-use Rattle.promises.proofs.Reached.{Reached, reached, counted, answered-each, codes, conserved}
+use Rattle.promises.specs.Promises.{NoCarbon, Chosen, CloseTo, sums, DemandThree, SaysOwn, Promises}
+use Rattle.promises.proofs.OneByOne.{OneByOne, one-by-one, n-counts, codes, conserved}
 use Rattle.promises.proofs.Stocks.{close}
 use Rattle.promises.proofs.Release.{nothing-brought}
 use Rattle.promises.proofs.Figures.{published}
-use Rattle.promises.proofs.WholeRun.{run-is-offering}
+use Rattle.promises.proofs.WholeRun.{whole-run}
+use Rattle.promises.proofs.OneRun.{one-run}
 use Rattle.promises.proofs.Worked.{worked}
 
 -- Every rate of a type that decays is in the table, by one test over the types and climates.
@@ -28,26 +38,26 @@ rate? : (t climate : ℕ) → Bool
 rate? t climate = leb 1 (rateOf (t + 1) climate) && leb (rateOf (t + 1) climate) 400
 
 listed? : (t : ℕ) → Bool
-listed? t = everyOf (λ c. inert t || rate? t (c + 1)) 4
+listed? t = everyOf (λ c. inert t || rate? t (c + 1)) climates
 
-rate-listed : (t climate : ℕ) → t < 8 → inert t ≡ false → between 1 climate 4 ≡ true
+rate-listed : (t climate : ℕ) → t < 8 → inert t ≡ false → isClimate climate ≡ true
     → (1 ≤ rateOf (t + 1) climate) × (rateOf (t + 1) climate ≤ 400)
 unfolding listed? rate? rateOf
 rate-listed t climate place i c =
-    let ends = both-true (leb 1 climate) (leb climate 4) c in
+    let ends = both-true (leb 1 climate) (leb climate climates) c in
     let low = leb-true 1 climate (ends .0) in
-    let high = leb-true climate 4 (ends .1) in
+    let high = leb-true climate climates (ends .1) in
     let back : climate - 1 + 1 ≡ climate = omega arith in
-    let each = every-at (λ c. inert t || rate? t (c + 1)) 4 (climate - 1) (omega arith) (every-at listed? 8 t place refl) in
+    let each = every-at (λ c. inert t || rate? t (c + 1)) climates (climate - 1) (omega arith) (every-at listed? 8 t place refl) in
     let rate : rate? t climate ≡ true = simp (i, back) at each in
     let both = both-true (leb 1 (rateOf (t + 1) climate)) (leb (rateOf (t + 1) climate) 400) rate in
     (leb-true 1 (rateOf (t + 1) climate) (both .0), leb-true (rateOf (t + 1) climate) 400 (both .1))
 
-module _ (o : Outcome) (r : Reached o) where
+module _ (o : Offering) (r : OneByOne o) where
   sums-chosen : (m : ℕ) → 15 ≤ m → 1 ≤ o .ledger .n → Chosen (o .ledger) (sums (o .ledger) m)
   unfolding entryAt
   sums-chosen m long some t place i =
-      let code = codes o r (rw (counted o r) at some) in
+      let code = codes o r (rw (n-counts o r) at some) in
       let rate = rate-listed t (o .ledger .climate) place i (code .1) in
       stands-for-sums (o .ledger .kind) (rateOf (t + 1) (o .ledger .climate)) m (code .0) (rate .0) (rate .1) long
 
@@ -63,22 +73,21 @@ module _ (o : Outcome) (r : Reached o) where
       }
 
   stock-close : (d : ℕ → Fraction) → Chosen (o .ledger) d → 1 ≤ o .ledger .n → (t : ℕ) → t < 8
-      → CloseTo (exactStockAt d (o .accepted) (o .ledger .n) t) (o .ledger .n) (broughtAt (o .ledger) t) (stockAt (o .ledger) t)
+      → CloseTo (exactStockAt d (recordsIn o) (o .ledger .n) t) (o .ledger .n) (broughtAt (o .ledger) t) (stockAt (o .ledger) t)
   unfolding exactStockAt
   stock-close d chosen some t place = by-test (inert t) refl
     where
       by-test : (b : Bool) → inert t ≡ b
-          → CloseTo (exactStockAt d (o .accepted) (o .ledger .n) t) (o .ledger .n) (broughtAt (o .ledger) t) (stockAt (o .ledger) t)
+          → CloseTo (exactStockAt d (recordsIn o) (o .ledger .n) t) (o .ledger .n) (broughtAt (o .ledger) t) (stockAt (o .ledger) t)
       by-test true i =
           let none = inert-waste t i in
           rw (i, none .T-none, none .R-none) (record { never-above = omega arith; short-by-less = omega arith })
-      by-test false i = rw (i, counted o r) (close t (d t) place o r (rw (counted o r) at some) (chosen t place i))
+      by-test false i = rw (i, n-counts o r) (close t (d t) place o r (rw (n-counts o r) at some) (chosen t place i))
 
   demand-three : DemandThree o
   demand-three =
       record {
-        n-accepted = counted o r;
-        n-answered = counted o r ∙ sym (answered-each o r);
+        n-accepted = n-counts o r;
         conserved = λ t place. conserved t place o r;
         inert-waste = inert-waste;
         stock-close = stock-close;
@@ -86,12 +95,31 @@ module _ (o : Outcome) (r : Reached o) where
         sums-chosen = λ m long. sums-chosen m (omega arith);
       }
 
+-- An accepted record has the period n + 1, and its kind and climate become the ledger's.
+says-own : (l : Ledger) (bytes : List ℕ) (room : ℕ) → takeOf l bytes room .refusal ≡ 0 → SaysOwn bytes (takeOf l bytes room)
+unfolding outputFields acceptedOf after answerText
+says-own l bytes room e =
+    let zero = sym (take-refusal l bytes room) ∙ e in
+    let period = step.accepted l bytes room zero .period in
+    rw (taken l bytes room zero)
+    (record { own-period = omega (arith, period); own-kind = refl; own-climate = refl; own-line = rw period })
+
+-- Room for every output record is all the room that matters.
+listing-of-run : (file : List ℕ) (room : ℕ) → recordBytes * length (recordsOf file) ≤ room
+    → listingOf file ≡ runText 1 (runOf fresh (recordsOf file) room)
+unfolding listingOf wholeRun
+listing-of-run file room h =
+    ap (runText 1) (run-roomy fresh (recordsOf file) (recordBytes * length (recordsOf file)) room (omega arith) h)
+
 pub promises : Promises
 promises =
     record {
-      demand-three = λ offers. demand-three (offering offers) (reached offers);
+      demand-three = λ offers. demand-three (offering offers) (one-by-one offers);
       any-fraction = λ D p q above.
           (λ s. (omega (arith, s .from), omega (arith, s .upTo)), λ h. record { from = omega (arith, h .0); upTo = omega (arith, h .1) });
-      whole-run = λ file. run-is-offering (recordsOf file);
+      whole-run = whole-run;
+      one-run = one-run;
+      says-own = says-own;
+      listing-of-run = λ file room enough. listing-of-run file room (omega arith);
       worked-figures = worked;
     }

@@ -5,13 +5,12 @@ use Prim.Native.Nat.{ℕ, zero, suc, _+_, _-_, _*_, _/_, _^_, _≤_, _<_}
 use native.Mathlib.Numerals.{add-one}
 use native.Mathlib.Omega.{arith}
 use Rattle.numbers.specs.Fraction.{Fraction, over, whole, _⊕_, _⊗_, _≼_, _≺_, _≈_, power, total}
-use Rattle.numbers.proofs.Fraction.{at-most-trans, at-most-below}
 use Rattle.decay.specs.Series.{StandsFor}
 use Rattle.ledger.specs.Stock.{leftOf}
 use Rattle.promises.specs.Exact.{remains, exactStock}
 use Rattle.promises.specs.Promises.{CloseTo}
-use Rattle.promises.proofs.Step.{left-most}
-use Rattle.promises.proofs.Fractions.{same-trans, spread, regroup, times-left, times-right, add-at-most, add-same, total-alike, total-times}
+use Rattle.ledger.proofs.Step.{left-most}
+use Rattle.numbers.proofs.Fraction.{at-most-trans, at-most-below, same-trans, spread, regroup, times-left, times-right, add-at-most, add-same, total-alike, total-times}
 
 module _ (d : Fraction) (deposit : ℕ → ℕ) where
   -- what is left, by the number of its periods
@@ -44,13 +43,13 @@ module _ (d : Fraction) (deposit : ℕ → ℕ) where
       (spread old new d)
 
 -- What is known of the exact stock X after n records bringing T, with R left.
-pub record Near (X : Fraction) (n T R : ℕ) : Type 0 where
-  pub low : whole R ≼ X
-  pub high : X ≼ whole R ⊕ over (10 ^ 9 * n + n * T) (10 ^ 9) (omega arith)
-  pub most : X ≼ whole T
-  pub left : R ≤ T
+pub record NearExact (X : Fraction) (n T R : ℕ) : Type 0 where
+  pub stock-below : whole R ≼ X
+  pub short-at-most : X ≼ whole R ⊕ over (10 ^ 9 * n + n * T) (10 ^ 9) (omega arith)
+  pub exact-most : X ≼ whole T
+  pub stock-most : R ≤ T
 
-module _ (X X′ d : Fraction) (n T R x D : ℕ) (small : D < 10 ^ 9) (stands : StandsFor D d) (next : X′ ≈ (X ⊕ whole x) ⊗ d) (near : Near X n T R) where
+module _ (X X′ d : Fraction) (n T R x D : ℕ) (small : D < 10 ^ 9) (stands : StandsFor D d) (next : X′ ≈ (X ⊕ whole x) ⊗ d) (near : NearExact X n T R) where
   abbrev Y : Fraction
   Y = X ⊕ whole x
 
@@ -70,13 +69,13 @@ module _ (X X′ d : Fraction) (n T R x D : ℕ) (small : D < 10 ^ 9) (stands : 
   at-most-1 = at-most-trans d (over (D + 1) (10 ^ 9) (omega arith)) (whole 1) under (omega arith)
 
   held-low : whole (R + x) ≼ Y
-  held-low = omega (arith, near .low)
+  held-low = omega (arith, near .stock-below)
 
   held-positive : whole 0 ≼ Y
   held-positive = at-most-trans (whole 0) (whole (R + x)) Y (omega arith) held-low
 
   held-high : Y ≼ whole (R + x) ⊕ e
-  held-high = omega (arith, near .high)
+  held-high = omega (arith, near .short-at-most)
 
   never-above : whole (leftOf (R + x) D) ≼ X′
   unfolding leftOf
@@ -99,15 +98,15 @@ module _ (X X′ d : Fraction) (n T R x D : ℕ) (small : D < 10 ^ 9) (stands : 
       (at-most-below ((H ⊕ e) ⊗ d) (H ⊗ d ⊕ e ⊗ d) end (omega (arith, spread H e d))
       (at-most-below (H ⊗ d ⊕ e ⊗ d) (H ⊗ D′ ⊕ e ⊗ whole 1) end
       (add-at-most (H ⊗ d) (H ⊗ D′) (e ⊗ d) (e ⊗ whole 1) (times-left d D′ H (omega arith) under) (times-left d (whole 1) e (omega arith) at-most-1))
-      (omega (arith, floor, near .left)))))
+      (omega (arith, floor, near .stock-most)))))
 
   most-next : X′ ≼ whole (T + x)
   most-next =
       at-most-trans X′ (Y ⊗ d) (whole (T + x)) (omega (arith, next))
-      (at-most-trans (Y ⊗ d) (Y ⊗ whole 1) (whole (T + x)) (times-left d (whole 1) Y held-positive at-most-1) (omega (arith, near .most)))
+      (at-most-trans (Y ⊗ d) (Y ⊗ whole 1) (whole (T + x)) (times-left d (whole 1) Y held-positive at-most-1) (omega (arith, near .exact-most)))
 
-  pub step : CloseTo X′ (suc n) (T + x) (leftOf (R + x) D) × Near X′ (suc n) (T + x) (leftOf (R + x) D)
-  step = (
+  pub one-on : CloseTo X′ (suc n) (T + x) (leftOf (R + x) D) × NearExact X′ (suc n) (T + x) (leftOf (R + x) D)
+  one-on = (
     record { never-above = omega (arith, never-above); short-by-less = omega (arith, short-by-less) },
-    record { low = never-above; high = omega (arith, short-by-less); most = most-next; left = omega (arith, near .left, left-most (R + x) D small) },
+    record { stock-below = never-above; short-at-most = omega (arith, short-by-less); exact-most = most-next; stock-most = omega (arith, near .stock-most, left-most (R + x) D small) },
   )

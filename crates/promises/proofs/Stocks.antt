@@ -3,25 +3,27 @@ use mathlib.Core.Path.{_≡_, refl}
 use mathlib.Core.List.{List, [], _∷_, _++_}
 use Prim.Native.Nat.{ℕ, suc, _+_, _-_, _≤_, _<_}
 use native.Mathlib.Omega.{arith}
-use lib.ListN.{length, List·getD-append}
+use lib.ListN.{length, length-map, List·getD-append}
 use lib.Seq.{getD-at}
 use Rattle.numbers.specs.Fraction.{Fraction, whole, _⊕_, _⊗_, _≈_, total}
 use Rattle.numbers.proofs.Eight.{eight-at}
+use Rattle.numbers.proofs.Fraction.{total-same}
+use Rattle.numbers.proofs.Lists.{length-more}
 use Rattle.decay.specs.Series.{StandsFor}
-use Rattle.ledger.specs.Fields.{kindOf, climateOf, massOf}
-use Rattle.ledger.specs.Stock.{fresh, broughtAt, stockAt, entryAt, depositOf, after}
+use Rattle.record.specs.Fields.{kindOf, climateOf, depositOf}
+use Rattle.stock.specs.Stock.{entryAt}
+use Rattle.stock.proofs.Laws.{entry-small}
+use Rattle.ledger.specs.Stock.{fresh, broughtAt, stockAt, after}
 use Rattle.ledger.specs.Refusal.{refusalOf}
-use Rattle.ledger.specs.Take.{acceptedOf}
 use Rattle.ledger.specs.declared.book.Ledger.{Ledger}
-use Rattle.promises.specs.Offer.{Outcome, taken}
+use Rattle.ledger.proofs.Accepted as step
+use Rattle.ledger.proofs.History.{acceptedTurn}
+use Rattle.ledger.proofs.Step.{brought-after, stock-after}
+use Rattle.promises.specs.Offering.{Offering, recordsIn}
 use Rattle.promises.specs.Exact.{remains, exactStock, depositIn}
 use Rattle.promises.specs.Promises.{CloseTo}
-use Rattle.promises.proofs.Fractions.{total-same}
-use Rattle.promises.proofs.Lists.{length-more}
-use Rattle.promises.proofs.Accepted.{accepted}
-use Rattle.promises.proofs.Step.{entry-small, brought-after, stock-after}
-use Rattle.promises.proofs.Reached.{Reached, none, more, counted}
-use Rattle.promises.proofs.Stock.{recurs, Near, step}
+use Rattle.promises.proofs.OneByOne.{withOne, OneByOne, none-yet, one-more, records-more, n-counts}
+use Rattle.promises.proofs.Stock.{recurs, NearExact, one-on}
 
 -- one record more leaves the deposits before it as they are
 module _ (records : List (List ℕ)) (bytes : List ℕ) (t : ℕ) where
@@ -32,7 +34,7 @@ module _ (records : List (List ℕ)) (bytes : List ℕ) (t : ℕ) where
   unfolding depositIn
   earlier i low high = rw (List·getD-append records (bytes ∷ []) [] (i - 1) (omega arith))
 
-  pub latest : depositIn all t (suc (length records)) ≡ depositOf (massOf bytes t) t
+  pub latest : depositIn all t (suc (length records)) ≡ depositOf bytes t
   unfolding depositIn
   latest =
       let e : suc (length records) - 1 ≡ length records = omega arith in
@@ -44,61 +46,59 @@ module _ (records : List (List ℕ)) (bytes : List ℕ) (t : ℕ) where
       total-same (λ k. remains d (depositIn all t) n (k + 1)) (λ k. remains d (depositIn records t) n (k + 1)) n
       (λ k l. rw (earlier (k + 1) (omega arith) (omega arith)))
 
+pub all-counted : (o : Offering) → length (recordsIn o) ≡ length (o .accepted)
+all-counted o = length-map (o .accepted) (λ turn. turn .bytes)
+
 -- the exact stock of one type after the accepted records
-abbrev pub exactOf : Fraction → Outcome → ℕ → Fraction
-exactOf d o t = exactStock d (depositIn (o .accepted) t) (length (o .accepted))
+abbrev pub exactIn : Fraction → Offering → ℕ → Fraction
+exactIn d o t = exactStock d (depositIn (recordsIn o) t) (length (o .accepted))
 
-abbrev pub NearAt : Fraction → Outcome → ℕ → Type 0
-NearAt d o t = Near (exactOf d o t) (length (o .accepted)) (broughtAt (o .ledger) t) (stockAt (o .ledger) t)
+abbrev pub NearAt : Fraction → Offering → ℕ → Type 0
+NearAt d o t = NearExact (exactIn d o t) (length (o .accepted)) (broughtAt (o .ledger) t) (stockAt (o .ledger) t)
 
-abbrev pub CloseAt : Fraction → Outcome → ℕ → Type 0
-CloseAt d o t = CloseTo (exactOf d o t) (length (o .accepted)) (broughtAt (o .ledger) t) (stockAt (o .ledger) t)
+abbrev pub CloseAt : Fraction → Offering → ℕ → Type 0
+CloseAt d o t = CloseTo (exactIn d o t) (length (o .accepted)) (broughtAt (o .ledger) t) (stockAt (o .ledger) t)
 
-module _ (d : Fraction) (o : Outcome) (bytes : List ℕ) (t : ℕ) (place : t < 8) (stands : StandsFor (entryAt (kindOf bytes) (climateOf bytes) t) d) (near : NearAt d o t) where
-  abbrev x : ℕ
-  x = depositOf (massOf bytes t) t
+module _ (d : Fraction) (o : Offering) (bytes : List ℕ) (t : ℕ) (place : t < 8) (stands : StandsFor (entryAt (kindOf bytes) (climateOf bytes) t) d) (near : NearAt d o t) where
+  abbrev grown : List (List ℕ)
+  grown = recordsIn o ++ (bytes ∷ [])
 
-  abbrev D : ℕ
-  D = entryAt (kindOf bytes) (climateOf bytes) t
+  on : exactStock d (depositIn grown t) (suc (length (o .accepted))) ≈ (exactIn d o t ⊕ whole (depositOf bytes t)) ⊗ d
+  on =
+      let last : depositIn grown t (suc (length (o .accepted))) ≡ depositOf bytes t = rw (all-counted o) at (latest (recordsIn o) bytes t) in
+      rw (before (recordsIn o) bytes t d (length (o .accepted)) (rw (all-counted o) (omega arith)), last) at (recurs d (depositIn grown t) (length (o .accepted)))
 
-  abbrev next : Outcome
-  next = taken o bytes (acceptedOf (o .ledger) bytes)
-
-  on : exactStock d (depositIn (next .accepted) t) (suc (length (o .accepted))) ≈ (exactOf d o t ⊕ whole x) ⊗ d
-  on = rw (before (o .accepted) bytes t d (length (o .accepted)) (omega arith), latest (o .accepted) bytes t) at (recurs d (depositIn (next .accepted) t) (length (o .accepted)))
-
-  pub both-next : CloseAt d next t × NearAt d next t
-  unfolding acceptedOf
+  pub both-next : CloseAt d (withOne o bytes) t × NearAt d (withOne o bytes) t
   both-next =
-      rw (length-more (o .accepted) bytes, brought-after (o .ledger) bytes t place, stock-after (o .ledger) bytes t place)
-      (step (exactOf d o t) (exactStock d (depositIn (next .accepted) t) (suc (length (o .accepted)))) d (length (o .accepted))
-      (broughtAt (o .ledger) t) (stockAt (o .ledger) t) x D (entry-small (kindOf bytes) (climateOf bytes) t) stands on near)
+      rw (records-more o bytes, length-more (o .accepted) (acceptedTurn (o .ledger) bytes), brought-after (o .ledger) bytes t place, stock-after (o .ledger) bytes t place)
+      (one-on (exactIn d o t) (exactStock d (depositIn grown t) (suc (length (o .accepted)))) d (length (o .accepted))
+      (broughtAt (o .ledger) t) (stockAt (o .ledger) t) (depositOf bytes t) (entryAt (kindOf bytes) (climateOf bytes) t)
+      (entry-small (kindOf bytes) (climateOf bytes) t) stands on near)
 
 -- once a record is accepted, kind and climate are those of the ledger L
-abbrev pub Alike : Ledger → Outcome → Type 0
+abbrev pub Alike : Ledger → Offering → Type 0
 Alike L o = 0 < length (o .accepted) → (L .kind ≡ o .ledger .kind) × (L .climate ≡ o .ledger .climate)
 
-pub alike-before : (o : Outcome) (bytes : List ℕ) (room : ℕ) → Reached o → refusalOf (o .ledger) bytes room ≡ 0
+pub alike-before : (o : Offering) (bytes : List ℕ) (room : ℕ) → OneByOne o → refusalOf (o .ledger) bytes room ≡ 0
     → Alike (after (o .ledger) bytes) o
 unfolding after
 alike-before o bytes room r e h =
-    let a = accepted (o .ledger) bytes room e in
-    let n : 0 < o .ledger .n = rw (counted o r) h in
-    (a .same-kind n, a .same-climate n)
+    let some : 0 < o .ledger .n = rw (n-counts o r) h in
+    step.accepted (o .ledger) bytes room e .same (λ z. omega arith)
 
-pub near : (L : Ledger) (t : ℕ) (d : Fraction) → t < 8 → StandsFor (entryAt (L .kind) (L .climate) t) d → (o : Outcome)
-    → Reached o → Alike L o → NearAt d o t
-unfolding fresh exactStock total acceptedOf after
-near L t d place stands _ none alike =
-    rw (eight-at (λ _. 0) t place) (record { low = omega arith; high = omega arith; most = omega arith; left = omega arith })
-near L t d place stands _ (more o bytes room r e) alike =
-    let same = alike (rw (length-more (o .accepted) bytes) (omega arith)) in
+pub near : (L : Ledger) (t : ℕ) (d : Fraction) → t < 8 → StandsFor (entryAt (L .kind) (L .climate) t) d → (o : Offering)
+    → OneByOne o → Alike L o → NearAt d o t
+unfolding fresh exactStock total after
+near L t d place stands _ none-yet alike =
+    rw (eight-at (λ _. 0) t place) (record { stock-below = omega arith; short-at-most = omega arith; exact-most = omega arith; stock-most = omega arith })
+near L t d place stands _ (one-more o bytes room r e) alike =
+    let same = alike (rw (length-more (o .accepted) (acceptedTurn (o .ledger) bytes)) (omega arith)) in
     let here : StandsFor (entryAt (kindOf bytes) (climateOf bytes) t) d = rw (same .0, same .1) at stands in
     both-next d o bytes t place here (near (after (o .ledger) bytes) t d place here o r (alike-before o bytes room r e)) .1
 
-pub close : (t : ℕ) (d : Fraction) → t < 8 → (o : Outcome) → Reached o → 1 ≤ length (o .accepted)
+pub close : (t : ℕ) (d : Fraction) → t < 8 → (o : Offering) → OneByOne o → 1 ≤ length (o .accepted)
     → StandsFor (entryAt (o .ledger .kind) (o .ledger .climate) t) d → CloseAt d o t
-unfolding acceptedOf after
-close t d place _ none h stands = absurd (omega arith)
-close t d place _ (more o bytes room r e) h stands =
+unfolding after
+close t d place _ none-yet h stands = absurd (omega arith)
+close t d place _ (one-more o bytes room r e) h stands =
     both-next d o bytes t place stands (near (after (o .ledger) bytes) t d place stands o r (alike-before o bytes room r e)) .0

@@ -1,84 +1,78 @@
 -- A run takes a record exactly where offering it does, and hands on the same ledger and the same room, so both go side by side.
-use mathlib.Core.Path.{_≡_, refl, sym, ap, subst, _∙_}
-use mathlib.Core.List.{List, [], _∷_, _++_, append-nil, append-assoc}
+use mathlib.Core.Path.{_≡_, refl, sym, ap, _∙_}
+use mathlib.Core.List.{List, [], _∷_, map}
 use Prim.Native.Nat.{ℕ, suc, _-_}
 use native.Mathlib.Decide.{ℕ-discrete}
-use borrow.Author.Tests.{eq-eqb, ne-eqb}
-use lib.ListN.{length, take}
-use Rattle.ledger.specs.Fields.{recordBytes}
-use Rattle.ledger.specs.Take.{takeOf, outputRecord}
-use Rattle.ledger.specs.declared.answer.Answer.{Answer}
-use Rattle.run.specs.Run.{Run, stopped, counted, runOf}
-use Rattle.promises.specs.Offer.{Offer, Outcome, start, taken, offered, offeredAll, offering, inTurn, outputOfAll}
-use Rattle.promises.specs.Promises.{RunIsOffering}
+use native.Mathlib.Omega.{arith}
+use lib.ListN.{length, getD, take}
+use Rattle.record.specs.Fields.{recordBytes}
+use Rattle.ledger.specs.Stock.{after}
+use Rattle.ledger.specs.Refusal.{refusalOf}
+use Rattle.ledger.specs.Take.{takeOf, acceptedOf}
+use Rattle.ledger.specs.History.{Turn, accepted, recordsOf, inTurn, Run, runOf, outOf, outcomeOf}
+use Rattle.ledger.specs.declared.book.Ledger.{Ledger}
+use Rattle.ledger.proofs.Take.{take-refusal}
+use Rattle.ledger.proofs.History.{onFrom, acceptedTurn, run-goes-on, run-stops, run-ends, outputs-length}
+use Rattle.promises.specs.Offering.{Offering, offeringTo, recordsIn}
+use Rattle.promises.specs.WholeRun.{LeadingEnds, none-left, next-refused, runOver, WholeRun}
+use Rattle.promises.proofs.Offering.{inFront, offering-ends, offering-goes-on}
 
-output-more : (answers : List Answer) (a : Answer) → outputOfAll (answers ++ (a ∷ [])) ≡ outputOfAll answers ++ outputRecord a
-unfolding outputOfAll
-output-more [] a = append-nil (outputRecord a)
-output-more (x ∷ rest) a = rw (output-more rest a, append-assoc)
+-- the offering that a run comes to
+abbrev comesTo : Run → Offering
+comesTo r = record { ledger = r .ledger; accepted = r .accepted }
 
--- a run over some records, and the offering of those it accepts, both from the outcome o on
-record Follows (r : Run) (records : List (List ℕ)) (o end : Outcome) : Type 0 where
-  ledger : r .ledger ≡ end .ledger
-  accepted : end .accepted ≡ o .accepted ++ take (r .accepted) records
-  count : length (take (r .accepted) records) ≡ r .accepted
-  output : outputOfAll (end .answers) ≡ outputOfAll (o .answers) ++ r .written
+record Follows (l : Ledger) (records : List (List ℕ)) (room : ℕ) (r : Run) : Type 0 where
+  many : length (take (length (r .accepted)) records) ≡ length (r .accepted)
+  these : map (λ (turn : Turn). turn .bytes) (r .accepted) ≡ take (length (r .accepted)) records
+  offered : offeringTo l (inTurn (take (length (r .accepted)) records) room) ≡ comesTo r
+  stop : LeadingEnds records room (outcomeOf r)
 
-stays : (o : Outcome) (records : List (List ℕ)) (refusal : ℕ) → Follows (stopped (o .ledger) refusal) records o o
-stays o records refusal =
-    record { ledger = refl; accepted = sym (append-nil (o .accepted)); count = refl; output = sym (append-nil (outputOfAll (o .answers))) }
+-- one record more in front
+ends-later : (bytes : List ℕ) (rest : List (List ℕ)) (room : ℕ) (turn : Turn) (r : Run)
+    → LeadingEnds rest (room - recordBytes) (outcomeOf r) → LeadingEnds (bytes ∷ rest) room (outcomeOf (onFrom (turn ∷ []) r))
+unfolding outcomeOf
+ends-later bytes rest room turn r (none-left all zero) = none-left (omega (arith, all)) zero
+ends-later bytes rest room turn r (next-refused some e h) =
+    let k = length (r .accepted) in
+    next-refused (omega arith) (e ∙ ap (λ (left : ℕ). takeOf (r .ledger) (getD rest k []) left .refusal) (omega arith)) (omega arith)
 
-module _ (o : Outcome) (bytes : List ℕ) (rest : List (List ℕ)) (room : ℕ) where
-  abbrev a : Answer
-  a = takeOf (o .ledger) bytes room
-
-  run-on : a .refusal ≡ 0
-      → runOf (o .ledger) (bytes ∷ rest) room ≡ counted (outputRecord a) (runOf (a .ledger) rest (room - recordBytes))
-  unfolding runOf
-  run-on e = rw (eq-eqb (a .refusal) 0 e)
-
-  run-stops : (a .refusal ≡ 0 → ⊥) → runOf (o .ledger) (bytes ∷ rest) room ≡ stopped (o .ledger) (a .refusal)
-  unfolding runOf
-  run-stops e = rw (ne-eqb (a .refusal) 0 e)
-
-  is-taken : a .refusal ≡ 0 → offered o (record { bytes = bytes; room = room }) ≡ taken o bytes a
-  unfolding offered
-  is-taken e = rw (eq-eqb (a .refusal) 0 e)
-
-  offered-on : a .refusal ≡ 0 → (offers : List Offer)
-      → offeredAll o (record { bytes = bytes; room = room } ∷ offers) ≡ offeredAll (taken o bytes a) offers
-  unfolding offeredAll
-  offered-on e offers = ap (λ (on : Outcome). offeredAll on offers) (is-taken e)
-
-follows : (records : List (List ℕ)) (o : Outcome) (room : ℕ)
-    → Follows (runOf (o .ledger) records room) records o (offeredAll o (inTurn (take (runOf (o .ledger) records room .accepted) records) room))
-unfolding runOf inTurn offeredAll
-follows [] o room = stays o [] 0
-follows (bytes ∷ rest) o room =
-    let a = takeOf (o .ledger) bytes room in
-    elim (ℕ-discrete (a .refusal) 0) [
+follows : (l : Ledger) (records : List (List ℕ)) (room : ℕ) → Follows l records room (runOf l records room)
+unfolding inTurn outcomeOf acceptedOf
+follows l [] room = rw (run-ends l room) (record { many = refl; these = refl; offered = offering-ends l; stop = none-left refl refl })
+follows l (bytes ∷ rest) room =
+    elim (ℕ-discrete (refusalOf l bytes room) 0) [
       | yes e ↦
-          let r = runOf (a .ledger) rest (room - recordBytes) in
-          let f = follows rest (taken o bytes a) (room - recordBytes) in
-          rw (run-on o bytes rest room e)
-          (subst (λ (end : Outcome). Follows (counted (outputRecord a) r) (bytes ∷ rest) o end)
-          (sym (offered-on o bytes rest room e (inTurn (take (r .accepted) rest) (room - recordBytes))))
+          let l′ = after l bytes in
+          let r = runOf l′ rest (room - recordBytes) in
+          let f = follows l′ rest (room - recordBytes) in
+          rw (run-goes-on l bytes rest room e)
           (record {
-            ledger = f .ledger;
-            accepted = f .accepted ∙ append-assoc (o .accepted) (bytes ∷ []) (take (r .accepted) rest);
-            count = ap suc (f .count);
-            output = f .output ∙ rw (output-more (o .answers) a, append-assoc);
-          }))
-      | no e ↦ rw (run-stops o bytes rest room e) (stays o (bytes ∷ rest) (a .refusal))
+            many = ap suc (f .many);
+            these = ap (λ (xs : List (List ℕ)). bytes ∷ xs) (f .these);
+            offered = offering-goes-on l bytes room (inTurn (take (length (r .accepted)) rest) (room - recordBytes)) e ∙ ap (inFront (acceptedTurn l bytes)) (f .offered);
+            stop = ends-later bytes rest room (acceptedTurn l bytes) r (f .stop);
+          })
+      | no e ↦
+          rw (run-stops l bytes rest room (refusalOf l bytes room) refl e)
+          (record {
+            many = refl;
+            these = refl;
+            offered = offering-ends l;
+            stop = next-refused (omega arith) (sym (take-refusal l bytes room) ∙ ap (λ (left : ℕ). takeOf l bytes left .refusal) (omega arith)) (omega (arith, e));
+          })
     ]
 
-pub run-is-offering : (records : List (List ℕ)) (room : ℕ) → RunIsOffering records room
-unfolding offering outputOfAll
-run-is-offering records room =
-    let f = follows records start room in
+pub whole-run : (l : Ledger) (file out : List ℕ) → WholeRun l file out (outcomeOf (runOver l file out)) (outOf (runOver l file out) out)
+unfolding outcomeOf outOf
+whole-run l file out =
+    let f = follows l (recordsOf file) (length out) in
     record {
-      same-ledger = f .ledger;
-      all-accepted = f .accepted;
-      same-count = ap length (f .accepted) ∙ f .count;
-      same-output = sym (f .output);
+      begins =
+          record {
+            so-many = omega (arith, f .many);
+            every-one = ap recordsIn (f .offered) ∙ f .these;
+            ledger-after = sym (ap (λ (o : Offering). o .ledger) (f .offered));
+          };
+      stops = f .stop;
+      output-after = rw (f .offered, outputs-length (runOver l file out .accepted));
     }

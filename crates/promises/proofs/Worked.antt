@@ -7,12 +7,13 @@ use Rattle.promises.specs.Worked.{rows, holds, firstRecord, firstAnswer}
 use Rattle.numbers.specs.Fraction.{power, total}
 use Rattle.decay.specs.Series.{factorial, term, E, roundedDown, entryOf}
 use Rattle.waste.specs.Waste.{carbonOf, rateOf}
-use Rattle.ledger.specs.Fields
+use Rattle.record.specs.Fields
+use Rattle.record.specs.Ranges
+use Rattle.stock.specs.Stock.{entryAt}
 use Rattle.ledger.specs.Stock
-use Rattle.ledger.specs.Figure
 use Rattle.ledger.specs.Refusal
 use Rattle.ledger.specs.Take
 
 pub worked : allOf (map holds rows) ≡ true
-unfolding holds firstRecord firstAnswer power total factorial term E roundedDown entryOf carbonOf rateOf Fields.periodOf Fields.kindOf Fields.climateOf Fields.factorOf Fields.OXOf Fields.FOf Fields.DOCfOf Fields.classOf Fields.GWPOf Fields.capturedOf Fields.zerosOf Fields.massOf Stock.fresh Stock.entryAt Stock.depositOf Stock.leftOf Stock.deposit Stock.held Stock.newStock Stock.release Stock.after Refusal.emptyAt Refusal.allZero Refusal.sound Refusal.coded Refusal.inRange Refusal.light Refusal.faultsOf Refusal.refusalOf Take.acceptedOf Take.takeOf
+unfolding holds firstRecord firstAnswer power total factorial term E roundedDown entryOf carbonOf rateOf Fields.factorsOf Fields.zerosOf Fields.massOf Fields.depositOf Ranges.coded Ranges.inRange Ranges.light Stock.fresh entryAt Stock.leftOf Stock.held Stock.newStock Stock.release Stock.after Refusal.emptyAt Refusal.allZero Refusal.sound Refusal.faultsOf Refusal.refusalOf Take.acceptedOf Take.takeOf
 worked = refl

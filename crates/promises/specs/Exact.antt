@@ -9,8 +9,8 @@ use lib.Dec.{eqb}
 use lib.ListN.{getD}
 use Rattle.numbers.specs.Fraction.{Fraction, over, whole, _⊕_, _⊖_, _⊗_, power, total}
 use Rattle.waste.specs.Waste.{correctionOf}
-use Rattle.ledger.specs.Fields.{factorOf, OXOf, FOf, DOCfOf, classOf, GWPOf, capturedOf, massOf}
-use Rattle.ledger.specs.Stock.{depositOf}
+use Rattle.record.specs.Fields.{factorsOf, depositOf}
+use Rattle.record.specs.declared.factors.Factors.{Factors}
 
 -- One type, with the fraction d and the deposits of the records, in mg:
 module _ (d : Fraction) (deposit : ℕ → ℕ) where
@@ -31,19 +31,19 @@ abbrev pub recordAt : List (List ℕ) → (i : ℕ) → List ℕ
 recordAt records i = getD records (i - 1) []
 
 unfoldable pub depositIn : List (List ℕ) → (t i : ℕ) → ℕ
-depositIn records t i = depositOf (massOf (recordAt records i) t) t
+depositIn records t i = depositOf (recordAt records i) t
 
 -- Type 6 has no fraction; its exact stock and release are 0.
 abbrev pub inert : (t : ℕ) → Bool
 inert t = eqb (t + 1) 6
 
 -- The chain: x0 × factor × (10000 − f) / 10^6 × (100 − OX) × F × DOCf × MCF / 10^8 × 4 × GWP / 3000.
-unfoldable pub exactFigureOf : (bytes : List ℕ) → (x0 : Fraction) → Fraction
-exactFigureOf bytes x0 =
+unfoldable pub exactFigureOf : Factors → (x0 : Fraction) → Fraction
+exactFigureOf v x0 =
     x0
-    ⊗ over (factorOf bytes * (10000 - capturedOf bytes)) (10 ^ 6) (omega arith)
-    ⊗ over ((100 - OXOf bytes) * FOf bytes * DOCfOf bytes * correctionOf (classOf bytes)) (10 ^ 8) (omega arith)
-    ⊗ over (4 * GWPOf bytes) 3000 (omega arith)
+    ⊗ over (v .factor * (10000 - v .captured)) (10 ^ 6) (omega arith)
+    ⊗ over ((100 - v .oxidation) * v .methane * v .docf * correctionOf (v .class)) (10 ^ 8) (omega arith)
+    ⊗ over (4 * v .potential) 3000 (omega arith)
 
 -- All types, with a fraction at each place and the accepted records:
 module _ (d : ℕ → Fraction) (records : List (List ℕ)) where
@@ -55,4 +55,4 @@ module _ (d : ℕ → Fraction) (records : List (List ℕ)) where
 
   -- the exact figure of record n: its eight exact releases added, and the chain with its own factors.
   unfoldable pub exactFigure : (n : ℕ) → Fraction
-  exactFigure n = exactFigureOf (recordAt records n) (total (exactReleaseAt n) 8)
+  exactFigure n = exactFigureOf (factorsOf (recordAt records n)) (total (exactReleaseAt n) 8)

@@ -1,4 +1,5 @@
-pub mod Offer
+pub mod Offering
 pub mod Exact
-pub mod Promises
+pub mod WholeRun
 pub mod Worked
+pub mod Promises

@@ -3,42 +3,44 @@
 use mathlib.Core.Path.{_≡_}
 use mathlib.Core.Bool.{true, false}
 use mathlib.Core.Logic.{_↔_}
-use mathlib.Core.List.{List, [], _∷_, map}
+use mathlib.Core.List.{List, map}
 use Prim.Native.Nat.{ℕ, _+_, _*_, _^_, _≤_, _<_}
 use native.Mathlib.Omega.{arith}
-use lib.ListN.{length, getD, take}
+use lib.ListN.{length, getD}
 use Rattle.numbers.specs.Eight.{allOf}
 use Rattle.numbers.specs.Fraction.{Fraction, over, whole, _⊕_, _≼_, _≺_}
+use Rattle.numbers.specs.Lists.{added, Each}
 use Rattle.decay.specs.Series.{E, StandsFor, exponent}
 use Rattle.waste.specs.Waste.{rateOf}
-use Rattle.ledger.specs.Fields.{massOf}
-use Rattle.ledger.specs.Stock.{fresh, broughtAt, stockAt, entryAt, depositOf}
+use Rattle.record.specs.Fields.{recordBytes, periodOf, kindOf, climateOf, depositOf}
+use Rattle.stock.specs.Stock.{entryAt}
+use Rattle.ledger.specs.Stock.{fresh, broughtAt, stockAt}
+use Rattle.ledger.specs.Take.{takeOf, totalStock, outputFields}
+use Rattle.ledger.specs.History.{Offer, Turn, recordsOf, runOf, outOf, outcomeOf}
 use Rattle.ledger.specs.declared.book.Ledger.{Ledger}
-use Rattle.run.specs.Run.{Run, recordsOf, runOf}
-use Rattle.promises.specs.Offer.{Offer, Outcome, offering, inTurn, outputOfAll}
+use Rattle.ledger.specs.declared.answer.Answer.{Answer}
+use Rattle.ledger.specs.declared.answer.Outcome.{Outcome}
+use Rattle.line.specs.Line.{acceptedText}
+use Rattle.line.specs.Listing.{answerText, runText, listingOf}
+use Rattle.promises.specs.Offering.{Offering, offering, recordsIn}
 use Rattle.promises.specs.Exact.{inert, exactStockAt, exactFigure}
+use Rattle.promises.specs.WholeRun.{runOver, WholeRun}
 use Rattle.promises.specs.Worked.{rows, holds}
 
--- A number of each thing in a list, added.
-abbrev pub added : {A : Type 0} → (A → ℕ) → List A → ℕ
-added f [] = 0
-added f (x ∷ xs) = f x + added f xs
-
--- What is said of each thing in a list and its number, the first one's being i.
-abbrev pub Each : {A : Type 0} → (ℕ → A → Type 0) → (i : ℕ) → List A → Type 0
-Each P i [] = Unit
-Each P i (x ∷ xs) = P i x × Each P (i + 1) xs
+-- The carbon that the accepted records are answered to release at place t.
+abbrev pub releasedBy : Offering → (t : ℕ) → ℕ
+releasedBy o t = added (λ (turn : Turn). getD (turn .answer .releases) t 0) (o .accepted)
 
 -- At place t, what was released and what is left make up what was brought in, which is the deposits.
-pub record Conserved (o : Outcome) (t : ℕ) : Type 0 where
-  pub balance : added (λ answer. getD (answer .releases) t 0) (o .answers) + stockAt (o .ledger) t ≡ broughtAt (o .ledger) t
-  pub brought : broughtAt (o .ledger) t ≡ added (λ bytes. depositOf (massOf bytes t) t) (o .accepted)
+pub record Conserved (o : Offering) (t : ℕ) : Type 0 where
+  pub balance : releasedBy o t + stockAt (o .ledger) t ≡ broughtAt (o .ledger) t
+  pub deposited : broughtAt (o .ledger) t ≡ added (λ bytes. depositOf bytes t) (recordsIn o)
 
 -- At place t, T, R and all G are 0.
-pub record NoCarbon (o : Outcome) (t : ℕ) : Type 0 where
+pub record NoCarbon (o : Offering) (t : ℕ) : Type 0 where
   pub T-none : broughtAt (o .ledger) t ≡ 0
   pub R-none : stockAt (o .ledger) t ≡ 0
-  pub G-none : added (λ answer. getD (answer .releases) t 0) (o .answers) ≡ 0
+  pub G-none : releasedBy o t ≡ 0
 
 -- At each place t whose type decays, d t is a fraction from the table entry up to but not including the next billionth.
 abbrev pub Chosen : Ledger → (d : ℕ → Fraction) → Type 0
@@ -50,7 +52,7 @@ pub record CloseTo (exact : Fraction) (n T R : ℕ) : Type 0 where
   pub short-by-less : exact ≺ whole R ⊕ whole n ⊕ over (n * T) (10 ^ 9) (omega arith)
 
 -- The two differ by less than the bound, both ways.
-pub record Within (exact : Fraction) (figure bound : ℕ) : Type 0 where
+pub record WithinBound (exact : Fraction) (figure bound : ℕ) : Type 0 where
   pub exact-below : exact ≺ whole figure ⊕ whole bound
   pub figure-below : whole figure ≺ exact ⊕ whole bound
 
@@ -58,10 +60,9 @@ pub record Within (exact : Fraction) (figure bound : ℕ) : Type 0 where
 abbrev pub sums : Ledger → (m t : ℕ) → Fraction
 sums l m t = E (exponent (l .kind) (rateOf (t + 1) (l .climate))) m
 
--- What demand 3 says of an outcome, with the n, T and R of its ledger.
-pub record DemandThree (o : Outcome) : Type 0 where
+-- What demand 3 says of an offering, with the n, T and R of its ledger.
+pub record DemandThree (o : Offering) : Type 0 where
   pub n-accepted : o .ledger .n ≡ length (o .accepted)
-  pub n-answered : o .ledger .n ≡ length (o .answers)
   -- 'For each waste type, the carbon reported released by the accepted records plus the carbon left equals the carbon those
   -- records brought in.'
   pub conserved : (t : ℕ) → t < 8 → Conserved o t
@@ -71,27 +72,19 @@ pub record DemandThree (o : Outcome) : Type 0 where
   -- accepted records (n at least 1) bringing T milligrams, the carbon left is never above the exact stock and short of it by less
   -- than n + nT/1,000,000,000 milligrams'
   pub stock-close : (d : ℕ → Fraction) → Chosen (o .ledger) d → 1 ≤ o .ledger .n → (t : ℕ) → t < 8
-      → CloseTo (exactStockAt d (o .accepted) (o .ledger .n) t) (o .ledger .n) (broughtAt (o .ledger) t) (stockAt (o .ledger) t)
+      → CloseTo (exactStockAt d (recordsIn o) (o .ledger .n) t) (o .ledger .n) (broughtAt (o .ledger) t) (stockAt (o .ledger) t)
   -- '; each published figure differs from the exact formula by less than its printed bound.'
   pub figures-within : (d : ℕ → Fraction) → Chosen (o .ledger) d
-      → Each (λ i answer. Within (exactFigure d (o .accepted) i) (answer .figure) (answer .bound)) 1 (o .answers)
+      → Each (λ i turn. WithinBound (exactFigure d (recordsIn o) i) (turn .answer .figure) (turn .answer .bound)) 1 (o .accepted)
   -- 'The two sums enclose the true exponential': every longer sum is such a fraction too.
   pub sums-chosen : (m : ℕ) → 15 ≤ m → 1 ≤ o .ledger .n → Chosen (o .ledger) (sums (o .ledger) m)
 
--- A run over some records from a fresh ledger, and the offering of the leading ones that it accepts:
-module _ (records : List (List ℕ)) (room : ℕ) where
-  abbrev pub runFresh : Run
-  runFresh = runOf fresh records room
-
-  abbrev pub leadingOffered : Outcome
-  leadingOffered = offering (inTurn (take (runFresh .accepted) records) room)
-
-  -- they end alike.
-  pub record RunIsOffering : Type 0 where
-    pub same-ledger : runFresh .ledger ≡ leadingOffered .ledger
-    pub all-accepted : leadingOffered .accepted ≡ take (runFresh .accepted) records
-    pub same-count : length (leadingOffered .accepted) ≡ runFresh .accepted
-    pub same-output : runFresh .written ≡ outputOfAll (leadingOffered .answers)
+-- What an accepted record's output record and line say first is the record's own.
+pub record SaysOwn (bytes : List ℕ) (a : Answer) : Type 0 where
+  pub own-period : outputFields a .period ≡ periodOf bytes
+  pub own-kind : outputFields a .kind ≡ kindOf bytes
+  pub own-climate : outputFields a .climate ≡ climateOf bytes
+  pub own-line : answerText a ≡ acceptedText (periodOf bytes) (a .x0) (a .figure) (a .bound) (totalStock (a .ledger))
 
 pub record Promises : Type 0 where
   -- 'Start a fresh ledger and offer any list of records, passing over refused ones.'
@@ -100,6 +93,15 @@ pub record Promises : Type 0 where
   -- D / 10^9 ≤ p / q < (D + 1) / 10^9, with the denominators multiplied out.
   pub any-fraction : (D p q : ℕ) (above : 0 < q) → StandsFor D (over p q above) ↔ ((D * q ≤ 10 ^ 9 * p) × (10 ^ 9 * p < (D + 1) * q))
   -- 'the count is the number of leading records that the step, taken one after another, accepts': so demand 3 holds of a whole run.
-  pub whole-run : (file : List ℕ) (room : ℕ) → RunIsOffering (recordsOf file) room
+  pub whole-run : (l : Ledger) (file out : List ℕ) → WholeRun l file out (outcomeOf (runOver l file out)) (outOf (runOver l file out) out)
+  -- No other answer, and no other output, meets that.
+  pub one-run : (l : Ledger) (file out : List ℕ) (answer : Outcome) (left : List ℕ) → WholeRun l file out answer left
+      → (answer ≡ outcomeOf (runOver l file out)) × (left ≡ outOf (runOver l file out) out)
+  -- 'The output record [..]: bytes 0-1 period, 2 kind, 3 climate', and the line 'for each accepted one: period, x0, ..'
+  pub says-own : (l : Ledger) (bytes : List ℕ) (room : ℕ) → takeOf l bytes room .refusal ≡ 0 → SaysOwn bytes (takeOf l bytes room)
+  -- 'The listing program [..] prints for each accepted one [..]. At a refusal it prints [..] the record's place, and stops': the
+  -- listing of a file is that of its run, whatever room for output records the run has, if it is enough for all.
+  pub listing-of-run : (file : List ℕ) (room : ℕ) → recordBytes * length (recordsOf file) ≤ room
+      → listingOf file ≡ runText 1 (runOf fresh (recordsOf file) room)
   -- 'P1 to P10 are one table proved with a single statement from the definitions'
   pub worked-figures : allOf (map holds rows) ≡ true

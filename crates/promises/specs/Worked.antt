@@ -6,7 +6,7 @@ use lib.Dec.{eqb}
 use lib.ListN.{getD}
 use Rattle.numbers.specs.Bytes.{bytesOf}
 use Rattle.decay.specs.Series.{entryOf}
-use Rattle.ledger.specs.Fields.{recordBytes}
+use Rattle.record.specs.Fields.{recordBytes}
 use Rattle.ledger.specs.Stock.{fresh, stockAt}
 use Rattle.ledger.specs.Take.{takeOf}
 use Rattle.ledger.specs.declared.answer.Answer.{Answer}

@@ -13,7 +13,7 @@ use Rattle.numbers.proofs.Fault.{between-high}
 use Rattle.waste.specs.Waste.{massLimit, mostCarbon, carbonOf}
 use Rattle.waste.proofs.Laws.{carbon-most}
 use Rattle.record.specs.Fields.{massOf, depositOf, mostDeposit}
-use Rattle.record.specs.Ranges.{inRange, light}
+use Rattle.record.specs.Ranges.{ranges, inRange, light}
 use Rattle.record.specs.declared.factors.Factors.{Factors}
 
 pub record Ranged (v : Factors) : Type 0 where
@@ -27,9 +27,7 @@ pub record Ranged (v : Factors) : Type 0 where
 pub ranged : (v : Factors) → inRange v ≡ true → Ranged v
 unfolding inRange
 ranged v e =
-    let tests = between 1 (v .factor) 100 ∷ leb (v .oxidation) 100 ∷ leb (v .methane) 100 ∷ leb (v .docf) 100
-    ∷ between 1 (v .potential) 100 ∷ leb (v .captured) 10000 ∷ [] in
-    let p = all-true tests e in
+    let p = all-true (ranges v) e in
     record {
       factor = between-high 1 (v .factor) 100 (p .0);
       oxidation = leb-true (v .oxidation) 100 (p .1 .0);

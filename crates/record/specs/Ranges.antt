@@ -11,21 +11,26 @@ use Rattle.record.specs.Fields.{kindOf, climateOf, factorsOf, zerosOf, m
 use Rattle.record.specs.declared.factors.Factors.{Factors}
 
 -- Kind, climate and class are codes, and bytes 12-15 are all 0.
+abbrev pub codes : List ℕ → List Bool
+codes bytes =
+    isKind (kindOf bytes) ∷ isClimate (climateOf bytes) ∷ isClass (factorsOf bytes .class) ∷ eqb (zerosOf bytes) 0 ∷ []
+
 unfoldable pub coded : List ℕ → Bool
-coded bytes =
-    allOf (isKind (kindOf bytes) ∷ isClimate (climateOf bytes) ∷ isClass (factorsOf bytes .class) ∷ eqb (zerosOf bytes) 0 ∷ [])
+coded bytes = allOf (codes bytes)
 
 -- The factors, class aside, are within their ranges.
-unfoldable pub inRange : Factors → Bool
-inRange v =
-    allOf (
+abbrev pub ranges : Factors → List Bool
+ranges v =
     between 1 (v .factor) 100
     ∷ leb (v .oxidation) 100
     ∷ leb (v .methane) 100
     ∷ leb (v .docf) 100
     ∷ between 1 (v .potential) 100
     ∷ leb (v .captured) 10000
-    ∷ [])
+    ∷ []
+
+unfoldable pub inRange : Factors → Bool
+inRange v = allOf (ranges v)
 
 -- The mass at place t is at most 10^9.
 unfoldable pub light : List ℕ → (t : ℕ) → Bool

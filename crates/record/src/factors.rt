@@ -6,15 +6,15 @@ use crate::bytes::byte;
 use crate::bytes::two;
 
 // Correction factor, oxidation OX, methane share F and DOCf in percent, the site class, the warming potential GWP, and the captured
-// share f in hundredths of a percent.
+// share f in hundredths of a percent; wide where they are multiplied, so that the compiler keeps each in a place of its own.
 pub struct Factors {
-    pub factor: u8,
-    pub oxidation: u8,
-    pub methane: u8,
-    pub docf: u8,
+    pub factor: u64,
+    pub oxidation: u64,
+    pub methane: u64,
+    pub docf: u64,
     pub class: u8,
     pub potential: u8,
-    pub captured: u16,
+    pub captured: u64,
 }
 
 impl Factors {
@@ -23,13 +23,13 @@ impl Factors {
         ensures { λ r. ⌜ r ≡ factorsOf (now (bytes .entry)) ⌝ }
     {
         Factors {
-            factor: byte(bytes, 4),
-            oxidation: byte(bytes, 5),
-            methane: byte(bytes, 6),
-            docf: byte(bytes, 7),
+            factor: byte(bytes, 4) as u64,
+            oxidation: byte(bytes, 5) as u64,
+            methane: byte(bytes, 6) as u64,
+            docf: byte(bytes, 7) as u64,
             class: byte(bytes, 8),
             potential: byte(bytes, 9),
-            captured: two(bytes, 10),
+            captured: two(bytes, 10) as u64,
         }
     }
 
@@ -38,7 +38,7 @@ impl Factors {
         ensures { λ r. ⌜ r ≡ inRange self ⌝ }
     {
         let percents = (self.oxidation <= 100) & (self.methane <= 100) & (self.docf <= 100);
-        let factor = numbers::is_between(1, self.factor as u64, 100);
+        let factor = numbers::is_between(1, self.factor, 100);
         factor
             & percents
             & numbers::is_between(1, self.potential as u64, 100)

@@ -18,16 +18,16 @@ ranges c = ranged (c .before .before .args .factors) (within c)
 
 methane-requires : tie.Need-methane-requires
 methane-requires c κs =
-    let r = ranges (c .before .before .before .before .before .before .before) in
-    rw (c .before .before .before .correction .ensures) (r .oxidation, r .methane, r .docf, correction-most _)
+    let r = ranges (c .before .before) in
+    rw (c .correction .ensures) (r .oxidation, r .methane, r .docf, correction-most _)
 
 returns-2 : tie.Need-returns-2
 unfolding figureOf x1Of x2Of gramsOf
 returns-2 c =
     let line2 = c .before in
-    let line1 = line2 .before .before .before .before .before in
-    simp (within (line1 .before .before .before)) (
-    c .grams .ensures .0 ∙ rw (line2 .methane .ensures, line2 .before .before .before .before .correction .ensures, line1 .kept .ensures)
+    let line1 = line2 .before .before in
+    simp (within (line1 .before)) (
+    c .grams .ensures .0 ∙ rw (line2 .methane .ensures, line2 .before .correction .ensures, line1 .kept .ensures)
     )
 
 pub figure-spec : {M : Type 1} → statement M
@@ -35,7 +35,5 @@ figure-spec =
     tie.close
     (tie.spec (λ c κs. search needs)
     (λ c. simp (sym (c .before .is-in-range .ensures) ∙ not-true _ (c .if1 .taken)))
-    (λ c. search needs) (λ c. search needs)
-    (λ c κs. let r = ranges (c .before .before) in (r .factor, r .captured))
-    (λ c κs. search needs) (λ c. search needs) (λ c. search needs) (λ c. search needs) (λ c. search needs)
-    methane-requires (λ c κs. search needs) returns-2)
+    (λ c κs. let r = ranges c in (r .factor, r .captured))
+    (λ c κs. search needs) (λ c. search needs) methane-requires (λ c κs. search needs) returns-2)

@@ -45,9 +45,9 @@ past-7 : (c : tie.Else7) → Past (c .before .before .before .before .before .be
 unfolding faultsOf
 past-7 c = rw (past-6 (c .before .before .before)) (simp (rw (c .before .is-continued .ensures) at (c .if7 .left)))
 
-past-8 : (c : tie.Else8) → Past (c .before .before .before .before .before .before .before .before .before .before .before .before .before .before .before .before .before) 9
+past-8 : (c : tie.Else8) → Past (c .before .before .before .before .before .before .before .before .before .before .before .before .before .before .before .before) 9
 unfolding faultsOf
-past-8 c = rw (past-7 (c .before .before .before)) (simp (rw (c .before .is-in-range .ensures, c .before .before .of .ensures) at (c .if8 .left)))
+past-8 c = rw (past-7 (c .before .before)) (simp (rw (c .before .is-in-range .ensures, c .before .before .before .before .before .before .before .before .before .before .before .before .before .before .before .before .pre) at (c .if8 .left)))
 
 pub early-refusal-spec : {M : Type 1} → statement M
 unfolding faultsOf
@@ -64,6 +64,6 @@ early-refusal-spec =
     (λ c. rw (past-5 (c .before .before .before)) (simp (ne-eqb _ _ (rw (c .before .before .period .ensures) at (c .if6 .taken)))))
     (λ c κs. search needs)
     (λ c. rw (past-6 (c .before .before .before)) (simp (rw (c .before .is-continued .ensures) at (c .if7 .taken))))
-    (λ c κs. search needs) (λ c κs. search needs)
-    (λ c. rw (past-7 (c .before .before .before)) (simp (rw (c .before .is-in-range .ensures, c .before .before .of .ensures) at (c .if8 .taken))))
+    (λ c κs. search needs)
+    (λ c. rw (past-7 (c .before .before)) (simp (rw (c .before .is-in-range .ensures, c .before .before .before .before .before .before .before .before .before .before .before .before .before .before .before .before .pre) at (c .if8 .taken))))
     (λ c. sym (past-8 c)))

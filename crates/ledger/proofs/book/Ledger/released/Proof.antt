@@ -8,9 +8,11 @@ use lib.ListN.{getD}
 use Rattle.numbers.proofs.Eight.{filled, filled-more, eight-at}
 use Rattle.record.specs.Fields.{kindOf, climateOf, depositOf, mostDeposit}
 use Rattle.record.proofs.Laws.{deposit-most}
-use Rattle.ledger.specs.Stock.{mostBrought, stockAt, entryAt, held, newStock, release}
+use Rattle.stock.specs.Stock.{mostBrought, entryAt}
+use Rattle.ledger.specs.Stock.{stockAt, held, newStock, release}
 use Rattle.ledger.proofs.Accepted.{Accepted, accepted}
-use Rattle.ledger.proofs.Step.{entry-small, left-most}
+use Rattle.stock.proofs.Laws.{entry-small}
+use Rattle.ledger.proofs.Step.{left-most}
 use Rattle.ledger.proofs.book.Ledger.released.Statement.{statement}
 use Rattle.ledger.proofs.book.Ledger.released.Tie as tie
 

@@ -1,0 +1,13 @@
+-- Lists of any things, as demand 3 speaks of accepted records: a number of each added up, and what is said of each by its number.
+use mathlib.Core.List.{List, [], _∷_}
+use Prim.Native.Nat.{ℕ, _+_}
+
+-- A number of each thing in a list, added.
+abbrev pub added : {A : Type 0} → (A → ℕ) → List A → ℕ
+added f [] = 0
+added f (x ∷ xs) = f x + added f xs
+
+-- What is said of each thing in a list and its number, the first one's being i.
+abbrev pub Each : {A : Type 0} → (ℕ → A → Type 0) → (i : ℕ) → List A → Type 0
+Each P i [] = Unit
+Each P i (x ∷ xs) = P i x × Each P (i + 1) xs

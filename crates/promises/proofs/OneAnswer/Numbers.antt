@@ -1,0 +1,35 @@
+-- The public functions of `numbers`.
+use denote.Ref.{now}
+use Rattle.numbers.proofs.mul_div.Reads as mul-div
+use Rattle.numbers.proofs.read_u16.Reads as read-u16
+use Rattle.numbers.proofs.read_u32.Reads as read-u32
+use Rattle.numbers.proofs.read_u64.Reads as read-u64
+use Rattle.numbers.proofs.write_u16.Reads as write-u16
+use Rattle.numbers.proofs.write_u32.Reads as write-u32
+use Rattle.numbers.proofs.write_u64.Reads as write-u64
+use Rattle.numbers.proofs.is_between.Reads as is-between
+use Rattle.promises.proofs.OneAnswer.{OneAnswer, Settled, by-equation}
+
+pub mul-div-one : OneAnswer mul-div.Learnt
+mul-div-one = by-equation (λ κs a r s p. p)
+
+pub read-u16-one : OneAnswer read-u16.Learnt
+read-u16-one = by-equation (λ κs a r s p. p .0)
+
+pub read-u32-one : OneAnswer read-u32.Learnt
+read-u32-one = by-equation (λ κs a r s p. p .0)
+
+pub read-u64-one : OneAnswer read-u64.Learnt
+read-u64-one = by-equation (λ κs a r s p. p)
+
+pub write-u16-one : Settled write-u16.Learnt (λ κs r s. now (s .0))
+write-u16-one = by-equation (λ κs a r s p. p)
+
+pub write-u32-one : Settled write-u32.Learnt (λ κs r s. now (s .0))
+write-u32-one = by-equation (λ κs a r s p. p)
+
+pub write-u64-one : Settled write-u64.Learnt (λ κs r s. now (s .0))
+write-u64-one = by-equation (λ κs a r s p. p)
+
+pub is-between-one : OneAnswer is-between.Learnt
+is-between-one = by-equation (λ κs a r s p. p)

@@ -1,0 +1,26 @@
+-- How large things can be: a ceiling, an entry, and a sum.
+use mathlib.Core.Path.{_≡_, _∙_}
+use Prim.Native.Nat.{ℕ, _+_, _*_, _%_, _^_, _≤_, _<_}
+use native.Mathlib.Nat.{mul-le-mul, mod-eq-of-lt}
+use native.Mathlib.Omega.{arith}
+use Rattle.numbers.specs.Eight.{sumOf}
+use Rattle.numbers.proofs.Eight.{sum-most}
+use Rattle.decay.proofs.Rule.{entry-below}
+use Rattle.waste.specs.Waste.{massLimit, mostCarbon, carbonOf}
+use Rattle.waste.proofs.Laws.{carbon-most}
+use Rattle.stock.specs.Stock.{mostRecords, mostBrought, entryAt, ceilingOf}
+
+pub ceiling-most : (n t : ℕ) → n ≤ mostRecords → ceilingOf n t ≤ mostBrought
+unfolding ceilingOf
+ceiling-most n t h =
+    let m : n * massLimit * carbonOf (t + 1) ≤ mostRecords * massLimit * mostCarbon
+    = mul-le-mul {n₂ = mostRecords * massLimit} {m₂ = mostCarbon} (omega arith) (carbon-most (t + 1)) in
+    omega arith
+
+pub entry-small : (kind climate t : ℕ) → entryAt kind climate t < 10 ^ 9
+unfolding entryAt
+entry-small kind climate t = entry-below kind _
+
+-- A sum of eight small numbers is in 64 bits what it is.
+pub sum-fits : (f : ℕ → ℕ) → ((t : ℕ) → t < 8 → f t ≤ mostBrought) → sumOf f 8 % 2 ^ 64 ≡ sumOf f 8
+sum-fits f h = mod-eq-of-lt (omega (arith, sum-most f mostBrought 8 h))

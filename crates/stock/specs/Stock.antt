@@ -1,0 +1,27 @@
+-- Document 01, 'One step' and refusal 3: one type by its place, once over the kind. Place t has type t + 1; all carbon is in whole
+-- milligrams.
+use mathlib.Core.Bool.{Bool, _&&_}
+use Prim.Native.Nat.{ℕ, _+_, _*_}
+use lib.Dec.{leb}
+use Rattle.decay.specs.Series.{entryOf}
+use Rattle.waste.specs.Waste.{massLimit, carbonOf, rateOf}
+use Rattle.record.specs.Fields.{mostDeposit}
+
+-- At most 1200 records.
+abbrev pub mostRecords : ℕ
+mostRecords = 1200
+
+-- The most that T of one type can be.
+abbrev pub mostBrought : ℕ
+mostBrought = mostRecords * mostDeposit
+
+-- D, the table entry for the type's rate in a kind and climate.
+unfoldable pub entryAt : (kind climate t : ℕ) → ℕ
+entryAt kind climate t = entryOf kind (rateOf (t + 1) climate)
+
+-- T is at most n × 10^9 × DOC × 100, and R at most T.
+unfoldable pub ceilingOf : (n t : ℕ) → ℕ
+ceilingOf n t = n * massLimit * carbonOf (t + 1) * 100
+
+unfoldable pub withinOf : (n T R t : ℕ) → Bool
+withinOf n T R t = leb T (ceilingOf n t) && leb R T

@@ -1,0 +1,54 @@
+// The carbon of the eight types, as lists: their table entries, what so many records can bring, and sums.
+// It serves 'One step' and refusal 3 of document 01; the ledger calls it. Place 0 of a list is type 1.
+ghost use mathlib.Core.Bool.{_&&_};
+ghost use mathlib.Core.Path.{_≡_};
+ghost use Prim.Native.Nat.{_%_, _^_, _≤_, _<_};
+ghost use lib.Dec.{leb};
+ghost use lib.ListN.{getD};
+ghost use Rattle.numbers.specs.Eight.{eight, sumOf, everyOf};
+ghost use Rattle.stock.specs.Stock.{mostRecords, entryAt, ceilingOf, withinOf};
+
+// The most records that a ledger takes.
+pub const RECORDS: u16 = 1200;
+
+// Answers the table entries of the eight types in a kind and climate.
+pub fn entries(kind: u8, climate: u8) -> [u32; 8]
+    ensures { λ r. ⌜ r ≡ eight (entryAt kind climate) ⌝ }
+{
+    decay::entries(kind, waste::rates(climate))
+}
+
+// Tells whether T and R of place t are within what n records can bring.
+fn is_within(n: u64, brought: u64, left: u64, t: usize) -> bool
+    requires { ⌜ (n ≤ mostRecords) × (t < 8) ⌝ }
+    ensures { λ r. ⌜ r ≡ withinOf n brought left t ⌝ }
+{
+    let ceiling = n * waste::MASS_LIMIT * waste::carbon(t as u8 + 1) as u64 * 100;
+    (brought <= ceiling) & (left <= brought)
+}
+
+// Tells whether there are no more records than a ledger takes, and every T and R is within what they can bring.
+pub fn are_within(n: u16, brought: [u64; 8], left: [u64; 8]) -> bool
+    ensures { λ r. ⌜ r ≡ (leb n mostRecords && everyOf (λ t. withinOf n (getD brought t 0) (getD left t 0) t) 8) ⌝ }
+{
+    if n > RECORDS {
+        return false;
+    }
+    for t in 0..8 {
+        if !is_within(n as u64, brought[t], left[t], t) {
+            return false;
+        }
+    }
+    true
+}
+
+// Answers the sum over the eight types, in 64 bits; no sum of a sound ledger is wider.
+pub fn total(of: [u64; 8]) -> u64
+    ensures { λ r. ⌜ r ≡ sumOf (λ t. getD «of» t 0) 8 % 2 ^ 64 ⌝ }
+{
+    let mut sum = 0u64;
+    for t in 0..8 {
+        sum = std::num::wrapping_add_u64(sum, of[t]);
+    }
+    sum
+}
