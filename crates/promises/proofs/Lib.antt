@@ -7,6 +7,7 @@ pub mod Figure
 pub mod Figures
 pub mod WholeRun
 pub mod OneRun
+pub mod Site
 pub mod Worked
 pub mod Proved
 pub mod OneAnswer

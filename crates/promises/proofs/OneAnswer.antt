@@ -9,8 +9,10 @@ pub mod Output
 pub mod Stock
 pub mod Figure
 pub mod Ledger
+pub mod Image
 pub mod Door
 pub mod Line
+pub mod Abi
 
 infixr 4 _&_
 -- A result r and the buffers s at exit, with what they say of the answer: the same for any two answers that a contract allows.

@@ -57,12 +57,12 @@ unfolding fresh after
 n-counts _ none-yet = refl
 n-counts _ (one-more o bytes room r e) = rw (length-more, n-counts o r) (add-one (length (o .accepted)))
 
--- Kind and climate are codes once a record is accepted.
-pub codes : (o : Offering) → OneByOne o → 1 ≤ length (o .accepted)
+-- Kind and climate are kind-and-climate once a record is accepted.
+pub kind-and-climate : (o : Offering) → OneByOne o → 1 ≤ length (o .accepted)
     → (isKind (o .ledger .kind) ≡ true) × (isClimate (o .ledger .climate) ≡ true)
 unfolding after
-codes _ none-yet h = absurd (omega arith)
-codes _ (one-more o bytes room r e) h = let a = step.accepted (o .ledger) bytes room e in (a .kind, a .climate)
+kind-and-climate _ none-yet h = absurd (omega arith)
+kind-and-climate _ (one-more o bytes room r e) h = let a = step.accepted (o .ledger) bytes room e in (a .kind, a .climate)
 
 -- Deposits are parted into releases and stock at each record, and so all in all.
 pub conserved : (t : ℕ) → t < 8 → (o : Offering) → OneByOne o → Conserved o t

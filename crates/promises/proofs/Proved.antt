@@ -25,12 +25,13 @@ use Rattle.line.specs.Listing.{answerText, runText, wholeRun, listingOf}
 use Rattle.promises.specs.Offering.{Offering, offering, recordsIn}
 use Rattle.promises.specs.Exact.{inert, exactStockAt}
 use Rattle.promises.specs.Promises.{NoCarbon, Chosen, CloseTo, sums, DemandThree, SaysOwn, Promises}
-use Rattle.promises.proofs.OneByOne.{OneByOne, one-by-one, n-counts, codes, conserved}
+use Rattle.promises.proofs.OneByOne.{OneByOne, one-by-one, n-counts, kind-and-climate, conserved}
 use Rattle.promises.proofs.Stocks.{close}
 use Rattle.promises.proofs.Release.{nothing-brought}
 use Rattle.promises.proofs.Figures.{published}
 use Rattle.promises.proofs.WholeRun.{whole-run}
 use Rattle.promises.proofs.OneRun.{one-run}
+use Rattle.promises.proofs.Site.{kept-site}
 use Rattle.promises.proofs.Worked.{worked}
 
 -- Every rate of a type that decays is in the table, by one test over the types and climates.
@@ -57,7 +58,7 @@ module _ (o : Offering) (r : OneByOne o) where
   sums-chosen : (m : ℕ) → 15 ≤ m → 1 ≤ o .ledger .n → Chosen (o .ledger) (sums (o .ledger) m)
   unfolding entryAt
   sums-chosen m long some t place i =
-      let code = codes o r (rw (n-counts o r) at some) in
+      let code = kind-and-climate o r (rw (n-counts o r) at some) in
       let rate = rate-listed t (o .ledger .climate) place i (code .1) in
       stands-for-sums (o .ledger .kind) (rateOf (t + 1) (o .ledger .climate)) m (code .0) (rate .0) (rate .1) long
 
@@ -121,5 +122,6 @@ promises =
       one-run = one-run;
       says-own = says-own;
       listing-of-run = λ file room enough. listing-of-run file room (omega arith);
+      kept-site = kept-site;
       worked-figures = worked;
     }

@@ -59,15 +59,15 @@ module _ (X X′ : Fraction) (n T R x R′ G : ℕ) (near : NearExact X n T R) (
       ]
 
 -- Inert waste brings no carbon, and so has none to release or to keep.
-pub no-carbon : (bytes : List ℕ) (t : ℕ) → inert t ≡ true → depositOf bytes t ≡ 0
+pub inert-brings-none : (bytes : List ℕ) (t : ℕ) → inert t ≡ true → depositOf bytes t ≡ 0
 unfolding depositOf carbonOf
-no-carbon bytes t e =
+inert-brings-none bytes t e =
     let p : t ≡ 5 = omega (arith, eqb-true) in
     rw p (omega arith)
 
 none-added : (t : ℕ) → inert t ≡ true → (records : List (List ℕ)) → added (λ bytes. depositOf bytes t) records ≡ 0
 none-added t e [] = refl
-none-added t e (bytes ∷ rest) = omega (arith, no-carbon bytes t e, none-added t e rest)
+none-added t e (bytes ∷ rest) = omega (arith, inert-brings-none bytes t e, none-added t e rest)
 
 pub nothing-brought : (t : ℕ) (o : Offering) → inert t ≡ true → Conserved o t → broughtAt (o .ledger) t ≡ 0
 nothing-brought t o e c = c .deposited ∙ none-added t e (recordsIn o)
@@ -87,7 +87,7 @@ module _ (d : ℕ → Fraction) (o : Offering) (bytes : List ℕ) (t : ℕ) (pla
   unfolding exactReleaseAt marginOf
   beside-inert e c =
       let no-T = nothing-brought t o e c in
-      let no-x = no-carbon bytes t e in
+      let no-x = inert-brings-none bytes t e in
       let no-G : release (o .ledger) bytes t ≡ 0 = omega (arith, balanced (o .ledger) bytes t place, c .balance) in
       let no-T′ : broughtAt (after (o .ledger) bytes) t ≡ 0 = omega (arith, brought-after (o .ledger) bytes t place) in
       rw (e, no-G, no-T′) (record { above = omega arith; below = omega arith })

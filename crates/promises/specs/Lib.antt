@@ -1,5 +1,6 @@
 pub mod Offering
 pub mod Exact
 pub mod WholeRun
+pub mod Site
 pub mod Worked
 pub mod Promises

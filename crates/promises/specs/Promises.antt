@@ -20,11 +20,14 @@ use Rattle.ledger.specs.History.{Offer, Turn, recordsOf, runOf, outOf, outcomeO
 use Rattle.ledger.specs.declared.book.Ledger.{Ledger}
 use Rattle.ledger.specs.declared.answer.Answer.{Answer}
 use Rattle.ledger.specs.declared.answer.Outcome.{Outcome}
+use Rattle.image.specs.Image.{imageBytes}
 use Rattle.line.specs.Line.{acceptedText}
 use Rattle.line.specs.Listing.{answerText, runText, listingOf}
+use Rattle.abi.specs.Entries.{freshLeft}
 use Rattle.promises.specs.Offering.{Offering, offering, recordsIn}
 use Rattle.promises.specs.Exact.{inert, exactStockAt, exactFigure}
 use Rattle.promises.specs.WholeRun.{runOver, WholeRun}
+use Rattle.promises.specs.Site.{Call, KeptSite}
 use Rattle.promises.specs.Worked.{rows, holds}
 
 -- The carbon that the accepted records are answered to release at place t.
@@ -103,5 +106,8 @@ pub record Promises : Type 0 where
   -- listing of a file is that of its run, whatever room for output records the run has, if it is enough for all.
   pub listing-of-run : (file : List ℕ) (room : ℕ) → recordBytes * length (recordsOf file) ≤ room
       → listingOf file ≡ runText 1 (runOf fresh (recordsOf file) room)
+  -- A site kept in an image, from a fresh one on: however records and files are handed to it, call after call, it is the offering of
+  -- them all, of which demand 3 speaks.
+  pub kept-site : (buffer : List ℕ) → length buffer ≡ imageBytes → (calls : List Call) → KeptSite (freshLeft buffer) calls
   -- 'P1 to P10 are one table proved with a single statement from the definitions'
   pub worked-figures : allOf (map holds rows) ≡ true

@@ -7,6 +7,8 @@ use Rattle.numbers.proofs.read_u64.Reads as read-u64
 use Rattle.numbers.proofs.write_u16.Reads as write-u16
 use Rattle.numbers.proofs.write_u32.Reads as write-u32
 use Rattle.numbers.proofs.write_u64.Reads as write-u64
+use Rattle.numbers.proofs.read_eight.Reads as read-eight
+use Rattle.numbers.proofs.write_eight.Reads as write-eight
 use Rattle.numbers.proofs.is_between.Reads as is-between
 use Rattle.promises.proofs.OneAnswer.{OneAnswer, Settled, by-equation}
 
@@ -30,6 +32,12 @@ write-u32-one = by-equation (λ κs a r s p. p)
 
 pub write-u64-one : Settled write-u64.Learnt (λ κs r s. now (s .0))
 write-u64-one = by-equation (λ κs a r s p. p)
+
+pub read-eight-one : OneAnswer read-eight.Learnt
+read-eight-one = by-equation (λ κs a r s p. p)
+
+pub write-eight-one : Settled write-eight.Learnt (λ κs r s. now (s .0))
+write-eight-one = by-equation (λ κs a r s p. p)
 
 pub is-between-one : OneAnswer is-between.Learnt
 is-between-one = by-equation (λ κs a r s p. p)

@@ -1,0 +1,35 @@
+-- The entries that C calls.
+use denote.Ref.{now}
+use Rattle.abi.proofs.landfill_entry.Reads as entry
+use Rattle.abi.proofs.landfill_fresh.Reads as fresh
+use Rattle.abi.proofs.landfill_take.Reads as take
+use Rattle.abi.proofs.landfill_run.Reads as run
+use Rattle.abi.proofs.landfill_totals.Reads as totals
+use Rattle.abi.proofs.landfill_cell.Reads as cell
+use Rattle.abi.proofs.landfill_point.Reads as point
+use Rattle.abi.proofs.landfill_listing.Reads as listing
+use Rattle.promises.proofs.OneAnswer.{OneAnswer, Settled, by-equation, _&_, both}
+
+pub landfill-entry-one : OneAnswer entry.Learnt
+landfill-entry-one = by-equation (λ κs a r s p. p)
+
+pub landfill-fresh-one : Settled fresh.Learnt (λ κs r s. r & now (s .0))
+landfill-fresh-one = by-equation (λ κs a r s p. both (p .0) (p .1))
+
+pub landfill-take-one : Settled take.Learnt (λ κs r s. r & now (s .0) & now (s .1 .1 .0) & now (s .1 .1 .1 .0))
+landfill-take-one = by-equation (λ κs a r s p. both (p .0) (both (p .1 .0) (both (p .1 .1 .0) (p .1 .1 .1))))
+
+pub landfill-run-one : Settled run.Learnt (λ κs r s. r & now (s .0) & now (s .1 .1 .0) & now (s .1 .1 .1 .0))
+landfill-run-one = by-equation (λ κs a r s p. both (p .0) (both (p .1 .0) (both (p .1 .1 .0) (p .1 .1 .1))))
+
+pub landfill-totals-one : Settled totals.Learnt (λ κs r s. r & now (s .1 .0) & now (s .1 .1 .0))
+landfill-totals-one = by-equation (λ κs a r s p. both (p .0) (both (p .1 .0) (p .1 .1)))
+
+pub landfill-cell-one : Settled cell.Learnt (λ κs r s. r & now (s .1 .1 .0))
+landfill-cell-one = by-equation (λ κs a r s p. both (p .0) (p .1))
+
+pub landfill-point-one : Settled point.Learnt (λ κs r s. r & now (s .1 .1 .0) & now (s .1 .1 .1 .0) & now (s .1 .1 .1 .1 .0))
+landfill-point-one = by-equation (λ κs a r s p. both (p .0) (both (p .1 .0) (both (p .1 .1 .0) (p .1 .1 .1))))
+
+pub landfill-listing-one : Settled listing.Learnt (λ κs r s. r & now (s .1 .0) & now (s .1 .1 .0))
+landfill-listing-one = by-equation (λ κs a r s p. both (p .0) (both (p .1 .0) (p .1 .1)))
