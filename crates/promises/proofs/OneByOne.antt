@@ -57,7 +57,7 @@ unfolding fresh after
 n-counts _ none-yet = refl
 n-counts _ (one-more o bytes room r e) = rw (length-more, n-counts o r) (add-one (length (o .accepted)))
 
--- Kind and climate are kind-and-climate once a record is accepted.
+-- Kind and climate are codes once a record is accepted.
 pub kind-and-climate : (o : Offering) → OneByOne o → 1 ≤ length (o .accepted)
     → (isKind (o .ledger .kind) ≡ true) × (isClimate (o .ledger .climate) ≡ true)
 unfolding after
