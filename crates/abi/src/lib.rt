@@ -157,8 +157,8 @@ pub extern "C" fn landfill_point(
     charted.refusal
 }
 
-// Writes the listing of a file at the start of the text and answers 0; a text with under 90 bytes for every record begun is
-// refused with 2.
+// Writes the listing of a file at the start of the text and answers 0; a text with under 90 bytes for every line that the file can
+// have is refused with 2.
 #[no_mangle]
 pub extern "C" fn landfill_listing(records: &[u8], text: &mut [u8], written: &mut u64) -> u8
     ensures { λ r. ⌜ r ≡ listedOf (now (records .entry)) (length (now (text .entry))) .refusal ⌝ }

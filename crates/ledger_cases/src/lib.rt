@@ -10,8 +10,8 @@ use ledger::Outcome;
 // The longest output that is lent.
 const LONGEST: usize = 65536;
 
-// The longest text of a listing: a line of 90 bytes for every 48 bytes begun of the longest file.
-const LONGEST_TEXT: usize = (65536 + 47) / 48 * 90;
+// The longest text of a listing: 90 bytes for every record that a ledger takes, and for the one that is refused.
+const LONGEST_TEXT: usize = 90 * (Ledger::RECORDS as usize + 1);
 
 // Prints the entry of a rate.
 pub fn decay(payload: &[u8]) {
@@ -102,7 +102,7 @@ pub fn run(payload: &[u8]) {
 
 // Answers room for the text of any listing.
 fn text() -> [u8; LONGEST_TEXT]
-    ensures { λ r. ⌜ 122940 ≡ length r ⌝ }
+    ensures { λ r. ⌜ 108090 ≡ length r ⌝ }
 {
     [0; LONGEST_TEXT]
 }

@@ -6,4 +6,4 @@ use Rattle.ledger_cases.proofs.text.Statement.{statement}
 use Rattle.ledger_cases.proofs.text.Tie as tie
 
 pub text-spec : {M : Type 1} → statement M
-text-spec = tie.close (tie.spec (λ c. sym (length-replicate {A = ℕ} 122940 0)))
+text-spec = tie.close (tie.spec (λ c. sym (length-replicate {A = ℕ} 108090 0)))
