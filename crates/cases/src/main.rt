@@ -17,13 +17,6 @@ const UNKNOWN_KIND: u8 = 3;
 
 const BAD_LENGTH: u8 = 4;
 
-// What the five bytes of a header say.
-struct Header {
-    letter: u8,
-    length: usize,
-    follows: u8,
-}
-
 // Answers whether a case follows whose payload may have any length from a least to a most.
 fn within(least: usize, length: usize, most: usize) -> u8
     ensures { λ r. ⌜ (r ≡ 0 → length ≤ most) ⌝ }
@@ -52,34 +45,6 @@ fn judged(letter: u8, length: usize) -> u8
     }
 }
 
-// Answers what follows a header of which so many bytes were read.
-fn follows(got: usize, letter: u8, length: usize) -> u8
-    ensures { λ r. ⌜ (r ≡ 0 → length ≤ 65536) ⌝ }
-{
-    if got == 0 {
-        return NOTHING;
-    }
-    if got < 5 {
-        return TRUNCATED;
-    }
-    judged(letter, length)
-}
-
-// Reads a header.
-fn read_header() -> Header
-    ensures { λ r. ⌜ (r .follows ≡ 0 → r .length ≤ 65536) ⌝ }
-{
-    let mut bytes = [0u8; 5];
-    let got = io::read_full(libc::STDIN_FILENO, &mut bytes);
-    let letter = bytes[0];
-    let length = numbers::read_u32(&bytes, 1) as usize;
-    Header {
-        letter,
-        length,
-        follows: follows(got, letter, length),
-    }
-}
-
 // Prints the line of a case by its letter.
 fn put_line(letter: u8, payload: &[u8]) {
     match letter {
@@ -94,7 +59,7 @@ fn put_line(letter: u8, payload: &[u8]) {
 }
 
 // Reads the payload of a case and prints its line; answers what follows.
-fn whole_case(letter: u8, payload: &mut [u8]) -> u8 {
+fn read_payload(letter: u8, payload: &mut [u8]) -> u8 {
     let got = io::read_full(libc::STDIN_FILENO, payload);
     if got < payload.len() {
         return TRUNCATED;
@@ -103,15 +68,27 @@ fn whole_case(letter: u8, payload: &mut [u8]) -> u8 {
     CASE
 }
 
-// Reads one case and prints its line; answers what follows.
-fn one_case() -> u8 {
-    let header = read_header();
-    if header.follows != CASE {
-        return header.follows;
+// Goes on behind a header; answers what follows.
+fn one_case(letter: u8, length: usize) -> u8 {
+    let follows = judged(letter, length);
+    if follows != CASE {
+        return follows;
     }
     let mut payload = io::large_buffer();
-    let length = header.length;
-    whole_case(header.letter, &mut payload[0..length])
+    read_payload(letter, &mut payload[0..length])
+}
+
+// Reads a case and prints its line; answers what follows.
+fn read_case() -> u8 {
+    let mut header = [0u8; 5];
+    let got = io::read_full(libc::STDIN_FILENO, &mut header);
+    if got == 0 {
+        return NOTHING;
+    }
+    if got < 5 {
+        return TRUNCATED;
+    }
+    one_case(header[0], numbers::read_u32(&header, 1) as usize)
 }
 
 // Prints why a case cannot be read; the end of the input prints nothing.
@@ -130,7 +107,7 @@ fn main() {
     let mut follows = CASE;
     let mut left = u64::MAX;
     while left > 0 && follows == CASE {
-        follows = one_case();
+        follows = read_case();
         left -= 1;
     }
     tell(follows);

@@ -1,5 +1,4 @@
 -- Where a case follows, its payload is no longer than the buffer.
-use Prim.Native.Nat.{_≤_}
 use native.Mathlib.Omega.{arith}
 use borrow.Author.Needs.{needs}
 use Rattle.cases.proofs.one_case.Statement.{statement}
@@ -9,5 +8,5 @@ pub one-case-spec : {M : Type 1} → statement M
 one-case-spec =
     tie.close
     (tie.spec (λ c κs. search needs) (λ c. search needs) (λ c κs. search needs) (λ c. search needs) (λ c. search needs)
-    (λ c. omega (arith, c .before .before .before .read-header .ensures (c .before .if1 .left), c .large-buffer .ensures))
+    (λ c. omega (arith, c .before .before .judged .ensures (c .before .if1 .left), c .large-buffer .ensures))
     (λ c κs. search needs) (λ c. search needs))
