@@ -37,10 +37,6 @@ same-case OutOfRange = refl
 pub one-answer : (cell : Cell) (a b : Weighed) → numbersOf a ≡ answerTo cell → numbersOf b ≡ answerTo cell → a ≡ b
 one-answer cell a b p q = sym (same-case a) ∙ ap caseOf (p ∙ sym q) ∙ same-case b
 
--- Each figure and bound have one point.
-pub one-point : (figure bound : ℕ) (a b : Charted) → a ≡ chartedOf figure bound → b ≡ chartedOf figure bound → a ≡ b
-one-point figure bound a b p q = p ∙ sym q
-
 -- The float of a whole number up to 2^53 is exactly that number.
 pub float-exact : (n : ℕ) → n ≤ exact → wholeOf (floatOf n) ≡ whole (pos n)
 unfolding ofInt

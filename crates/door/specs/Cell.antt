@@ -31,10 +31,6 @@ pub data Whole : Type 0 where
   whole : ℤ → Whole
   not-whole : Whole
 
-abbrev pub isWhole : Whole → Bool
-isWhole (whole z) = true
-isWhole not-whole = false
-
 -- The whole number of a sign bit and a size: minus zero is 0.
 abbrev pub signed : Bool → ℕ → ℤ
 signed false size = pos size

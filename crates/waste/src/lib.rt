@@ -17,8 +17,6 @@ const CLASSES: usize = 4;
 // By number, place 0 being no type: the order is never that of a translated list.
 const CARBON: [u16; 9] = [0, 4300, 4000, 1500, 2400, 2000, 0, 500, 900];
 
-const CORRECTION: [u8; CLASSES + 1] = [0, 100, 50, 80, 40];
-
 // Rates by climate code, place 0 being no climate.
 const GROUP_A: [u16; CLIMATES + 1] = [0, 40, 60, 45, 70];
 
@@ -115,8 +113,11 @@ pub fn is_class(class: u8) -> bool
 pub fn correction(class: u8) -> u8
     ensures { λ r. ⌜ r ≡ correctionOf class ⌝ }
 {
-    if class as usize > CLASSES {
-        return 0;
+    match class {
+        1 => 100,
+        2 => 50,
+        3 => 80,
+        4 => 40,
+        _ => 0,
     }
-    CORRECTION[class as usize]
 }
