@@ -1,10 +1,10 @@
 -- What the decay table promises, once over the kind.
 use mathlib.Core.Path.{_≡_, refl}
 use mathlib.Core.Bool.{Bool, true, false, cond}
-use Prim.Native.Nat.{ℕ, _+_, _*_, _^_, _≤_, _<_}
+use Prim.Native.Nat.{ℕ, _+_, _^_, _≤_, _<_}
 use native.Mathlib.Omega.{arith}
 use lib.Dec.{eqb}
-use Rattle.numbers.specs.Fraction.{Fraction, over, whole, _⊗_, _≼_, _≺_}
+use Rattle.numbers.specs.Fraction.{Fraction, over, whole, _⊗_, _≼_}
 use Rattle.numbers.proofs.Fraction.{at-most-trans, at-most-below, times-at-most}
 use Rattle.decay.specs.Series.{E, Encloses, StandsFor, isKind, exponent, entryOf}
 use Rattle.decay.proofs.Rule.{one-answer, listed}

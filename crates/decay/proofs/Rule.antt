@@ -2,7 +2,7 @@
 use mathlib.Core.Path.{_≡_, refl, sym, _∙_}
 use mathlib.Core.Bool.{Bool, true, false, cond, _&&_, and-false}
 use mathlib.Core.List.{List}
-use Prim.Native.Nat.{ℕ, suc, _+_, _-_, _*_, _/_, _^_, _≤_, _<_}
+use Prim.Native.Nat.{ℕ, _+_, _-_, _^_, _≤_, _<_}
 use native.Mathlib.Nat.{div-eq-of-lt-le}
 use native.Mathlib.Omega.{arith}
 use native.Mathlib.Decide.{ℕ-discrete, decLe}
@@ -10,7 +10,7 @@ use borrow.Author.Tests.{eq-eqb, ne-eqb, le-leb, lt-leb, leb-true}
 use lib.Dec.{T, leb, ltb, eqb, leb→le, ltb→lt}
 use lib.Ieee.Fits.{and-l, and-r}
 use lib.ListN.{length, getD}
-use Rattle.numbers.specs.Fraction.{Fraction, over, whole, floor, _⊗_, _≼_, _≺_, power, total}
+use Rattle.numbers.specs.Fraction.{Fraction, over, whole, floor, _⊗_, _≼_, _≺_, total}
 use Rattle.numbers.proofs.Fraction.{at-most-trans, at-most-below, less-with, times-at-most, atMost?, below?}
 use Rattle.decay.specs.Series.{factorial, term, E, Encloses, roundedDown, isKind, exponent, entryOf, TableOf}
 use Rattle.decay.proofs.Series.{odd-term}

@@ -1,12 +1,12 @@
 -- The terms (−x)^i / i! change sign at each step and, for x at most 1, never grow: so the sums enclose one another.
-use mathlib.Core.Path.{_≡_, refl, sym, ap, _∙_}
+use mathlib.Core.Path.{_≡_, refl, sym}
 use mathlib.Core.Bool.{Bool, true, false, not, cond}
 use Prim.Native.Nat.{ℕ, zero, suc, _+_, _-_, _*_, _^_, _≤_, _<_}
 use native.Mathlib.Nat.{zero-add, suc-add, pow-zero, pow-suc, mul-le-mul-left}
 use native.Mathlib.Omega.{arith}
-use Rattle.numbers.specs.Fraction.{Fraction, over, whole, negative, _⊕_, _⊗_, _≼_, _≺_, power, total}
+use Rattle.numbers.specs.Fraction.{Fraction, over, whole, negative, _⊕_, _≼_, power, total}
 use Rattle.numbers.proofs.Fraction.{at-most-trans, more-with, less-with, more-with-both, less-with-both}
-use Rattle.decay.specs.Series.{factorial, factorial-pos, term, E}
+use Rattle.decay.specs.Series.{factorial, term, E}
 
 -- even 0, odd 1, ..
 abbrev pub even : ℕ → Bool

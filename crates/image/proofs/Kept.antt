@@ -1,20 +1,18 @@
 -- The image of a ledger that can be kept says that ledger again; every ledger that the library answers to one can be kept.
-use mathlib.Core.Path.{_≡_, refl, sym, ap, _∙_}
+use mathlib.Core.Path.{_≡_, refl, sym}
 use mathlib.Core.Bool.{Bool, true, false}
 use mathlib.Core.List.{List, [], _∷_}
 use Prim.Native.Nat.{ℕ, _-_, _^_, _<_}
 use native.Mathlib.Decide.{ℕ-discrete}
 use native.Mathlib.Omega.{arith}
 use lib.Dec.{lit<}
-use Rattle.numbers.specs.Eight.{eight}
 use Rattle.numbers.proofs.Bytes.{read-back}
 use Rattle.record.specs.Fields.{recordBytes}
 use Rattle.ledger.specs.Stock.{fresh, broughtAt, stockAt, after}
 use Rattle.ledger.specs.Refusal.{sound, allZero, emptyAt, refusalOf}
 use Rattle.ledger.specs.Take.{acceptedOf, takeOf}
-use Rattle.ledger.specs.History.{Offer, Run, turns, ledgerAfter, runOf}
+use Rattle.ledger.specs.History.{Offer, turns, ledgerAfter, runOf}
 use Rattle.ledger.specs.declared.book.Ledger.{Ledger}
-use Rattle.ledger.specs.declared.answer.Answer.{Answer}
 use Rattle.ledger.proofs.Sound.{sound-is}
 use Rattle.ledger.proofs.Accepted.{accepted, accepted-sound}
 use Rattle.ledger.proofs.Take.{taken, refused-keeps}

@@ -1,26 +1,26 @@
 -- What holds of a record that is not refused, looked up by the fault's number, and that the ledger after it is sound again.
-use mathlib.Core.Path.{_≡_, refl, sym, ap, _∙_}
-use mathlib.Core.Bool.{Bool, true, false, not, cond, _&&_}
-use mathlib.Core.List.{List, [], _∷_}
-use Prim.Native.Nat.{ℕ, suc, _+_, _*_, _^_, _≤_, _<_}
+use mathlib.Core.Path.{_≡_, refl}
+use mathlib.Core.Bool.{Bool, true, false, not, cond}
+use mathlib.Core.List.{List}
+use Prim.Native.Nat.{ℕ, _+_, _*_, _^_, _≤_, _<_}
 use native.Mathlib.Nat.{mul-le-mul-right}
 use native.Mathlib.Omega.{arith}
 use borrow.Author.Tests.{not-false, eqb-true, eqb-false, ltb-false, lt-ltb, le-ltb}
 use lib.Dec.{eqb}
 use lib.ListN.{length}
 use Rattle.numbers.specs.Eight.{everyOf}
-use Rattle.numbers.specs.Fault.{Fault, firstOf, ahead}
+use Rattle.numbers.specs.Fault.{firstOf, ahead}
 use Rattle.numbers.proofs.Eight.{both-true, all-true, every-at, eight-at}
 use Rattle.numbers.proofs.Fault.{isBad, clear, parted}
 use Rattle.numbers.proofs.Split.{share-most}
 use Rattle.decay.specs.Series.{isKind}
 use Rattle.decay.proofs.Rule.{entry-below}
-use Rattle.waste.specs.Waste.{massLimit, carbonOf, rateOf, isClimate, isClass}
-use Rattle.record.specs.Fields.{recordBytes, periodOf, kindOf, climateOf, factorsOf, zerosOf, massOf, depositOf}
+use Rattle.waste.specs.Waste.{carbonOf, rateOf, isClimate}
+use Rattle.record.specs.Fields.{recordBytes, periodOf, kindOf, climateOf, factorsOf, depositOf}
 use Rattle.record.specs.Ranges.{codes, coded, inRange, light}
 use Rattle.record.proofs.Laws.{mass-light}
 use Rattle.stock.specs.Stock.{mostRecords, mostBrought, entryAt, ceilingOf}
-use Rattle.ledger.specs.Stock.{leftOf, broughtAt, stockAt, newBrought, held, newStock, release, after}
+use Rattle.ledger.specs.Stock.{leftOf, newBrought, held, newStock, release, after}
 use Rattle.ledger.specs.Refusal.{sound, continues, faultsOf, refusalOf}
 use Rattle.ledger.specs.Take.{acceptedOf}
 use Rattle.ledger.specs.declared.book.Ledger.{Ledger}

@@ -1,13 +1,11 @@
 -- An accepted record's numbers fit 64 bits, so its output record says them all.
-use mathlib.Core.Path.{_≡_}
 use mathlib.Core.List.{List, _++_}
-use Prim.Native.Nat.{ℕ, _^_, _≤_, _<_}
+use Prim.Native.Nat.{ℕ, _^_, _<_}
 use native.Mathlib.Omega.{arith}
 use Rattle.numbers.specs.Eight.{sumOf}
 use Rattle.numbers.proofs.Eight.{sum-most}
 use Rattle.record.specs.Fields.{factorsOf}
 use Rattle.figure.proofs.Laws.{figure-most, bound-small}
-use Rattle.output.specs.declared.Output.{Output}
 use Rattle.output.proofs.Laws.{Fits, Says, says}
 use Rattle.stock.specs.Stock.{mostBrought}
 use Rattle.ledger.specs.Stock.{broughtAt, stockAt, release, after, x0Of}

@@ -1,7 +1,6 @@
 -- How a history goes: the records of a file, a step that accepts, a step that refuses, and stretches one after another.
 use mathlib.Core.Path.{_≡_, refl, sym, ap, _∙_}
-use mathlib.Core.Bool.{Bool, true, false, cond}
-use mathlib.Core.List.{List, [], _∷_, _++_, append-assoc, append-nil}
+use mathlib.Core.List.{List, [], _∷_, _++_, append-assoc}
 use Prim.Native.Nat.{ℕ, zero, suc, _+_, _-_, _*_, _/_, _≤_, _<_}
 use native.Mathlib.Decide.{ℕ-discrete}
 use native.Mathlib.Omega.{arith}
@@ -13,10 +12,9 @@ use Rattle.stock.specs.Stock.{mostRecords}
 use Rattle.ledger.specs.Stock.{after}
 use Rattle.ledger.specs.Refusal.{refusalOf}
 use Rattle.ledger.specs.Take.{acceptedOf, takeOf, outputRecord}
-use Rattle.ledger.specs.History.{Offer, Turn, turnOf, turns, ledgerAfter, isAccepted, leading, ending, outputs, cut, recordsOf, inTurn, Run, runOf}
+use Rattle.ledger.specs.History.{Turn, turnOf, turns, ledgerAfter, leading, ending, outputs, cut, recordsOf, inTurn, Run, runOf}
 use Rattle.ledger.specs.declared.book.Ledger.{Ledger}
-use Rattle.ledger.specs.declared.answer.Answer.{Answer}
-use Rattle.ledger.proofs.Take.{taken, not-taken, take-refusal, output-length}
+use Rattle.ledger.proofs.Take.{taken, take-refusal, output-length}
 use Rattle.ledger.proofs.Accepted.{accepted, room-alike}
 
 -- A file of no bytes has no records, and any other has a first record and the records of the rest.

@@ -1,24 +1,23 @@
 -- Where a run stands at the head of its loop, and how a turn and each end go from there.
 use mathlib.Core.Path.{_≡_, refl, sym, ap, _∙_}
-use mathlib.Core.Bool.{Bool, true, false, not, cond}
+use mathlib.Core.Bool.{Bool, true, false}
 use mathlib.Core.List.{List, [], _∷_, _++_, append-assoc, append-nil}
 use Prim.Native.Nat.{ℕ, _+_, _-_, _*_, _≤_, _<_}
 use native.Mathlib.Omega.{arith}
 use borrow.Author.Tests.{ne-eqb}
 use lib.ListN.{length, take, drop, length-drop, length-append, length-take, take-append-drop, drop-of-length-le}
 use lib.Seq.{length-take-le, take-at, drop-at, drop-drop, take-all}
-use Rattle.numbers.specs.Eight.{eight, everyOf}
+use Rattle.numbers.specs.Eight.{eight}
 use Rattle.numbers.proofs.Eight.{every-not, every-each}
-use Rattle.record.specs.Fields.{recordBytes, kindOf, climateOf}
+use Rattle.record.specs.Fields.{kindOf, climateOf}
 use Rattle.record.specs.Ranges.{light}
 use Rattle.stock.specs.Stock.{entryAt}
 use Rattle.ledger.specs.Stock.{after}
 use Rattle.ledger.specs.Refusal.{sound, faultsOf, refusalOf}
 use Rattle.ledger.specs.Take.{acceptedOf, outputRecord}
-use Rattle.ledger.specs.History.{Turn, outputs, recordsOf, Run, runOf, outcomeOf, outOf}
+use Rattle.ledger.specs.History.{Turn, outputs, recordsOf, runOf, outcomeOf, outOf}
 use Rattle.ledger.specs.declared.book.Ledger.{Ledger}
-use Rattle.ledger.specs.declared.answer.Outcome.{Outcome}
-use Rattle.ledger.proofs.Accepted.{Accepted, accepted, was-sound, has-room, accepted-sound, room-alike, early, refused-early, refused-late}
+use Rattle.ledger.proofs.Accepted.{accepted, was-sound, has-room, accepted-sound, room-alike, early, refused-early, refused-late}
 use Rattle.ledger.proofs.Take.{output-length}
 use Rattle.ledger.proofs.History.{no-records, first-record, stopped, onFrom, acceptedTurn, run-goes-on, run-stops, run-ends, on-from, outputs-length, outputs-join}
 

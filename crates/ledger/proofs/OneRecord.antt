@@ -1,7 +1,7 @@
 -- A run of one record is the step: what it answers, and what it leaves in the output.
 use mathlib.Core.Path.{_≡_, refl, sym, ap, _∙_}
 use mathlib.Core.List.{List, [], _∷_, _++_, append-nil}
-use Prim.Native.Nat.{ℕ, _≤_}
+use Prim.Native.Nat.{ℕ}
 use native.Mathlib.Decide.{ℕ-discrete}
 use borrow.Author.Tests.{ne-eqb}
 use lib.ListN.{length, drop}
@@ -10,8 +10,7 @@ use Rattle.ledger.specs.Refusal.{faultsOf, refusalOf}
 use Rattle.ledger.specs.Take.{acceptedOf, refusedOf, takeOf, writtenOf, outputRecord}
 use Rattle.ledger.specs.History.{outputs, recordsOf, Run, runOf, outcomeOf, outOf}
 use Rattle.ledger.specs.declared.book.Ledger.{Ledger}
-use Rattle.ledger.specs.declared.answer.Outcome.{Outcome}
-use Rattle.ledger.proofs.Take.{taken, not-taken, output-length, refused-writes-nothing}
+use Rattle.ledger.proofs.Take.{not-taken, output-length, refused-writes-nothing}
 use Rattle.ledger.proofs.History.{one-record, stopped, onFrom, acceptedTurn, run-goes-on, run-stops, run-ends}
 
 module _ (l : Ledger) (bytes out : List ℕ) where

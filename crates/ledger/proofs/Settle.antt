@@ -1,5 +1,5 @@
 -- One type's numbers, worked out from its deposit and the entry that was looked up, are those of the definitions.
-use mathlib.Core.Path.{_≡_, _∙_}
+use mathlib.Core.Path.{_≡_}
 use mathlib.Core.List.{List}
 use Prim.Native.Nat.{ℕ, _+_, _-_}
 use Rattle.record.specs.Fields.{kindOf, climateOf, depositOf}

@@ -4,7 +4,7 @@ use mathlib.Core.List.{List, [], _∷_}
 use Prim.Native.Nat.{ℕ, _+_}
 use lib.Dec.{eqb, leb, ltb}
 use lib.ListN.{length}
-use Rattle.numbers.specs.Eight.{everyOf, allOf}
+use Rattle.numbers.specs.Eight.{everyOf}
 use Rattle.numbers.specs.Fault.{Fault, _when_, firstOf}
 use Rattle.decay.specs.Series.{isKind}
 use Rattle.waste.specs.Waste.{isClimate}

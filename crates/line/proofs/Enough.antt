@@ -1,16 +1,16 @@
 -- What the program `listing` relies on: a ledger takes 1200 records, so record 1201 is refused at the latest.
-use mathlib.Core.Path.{_≡_, refl, sym, ap, _∙_}
+use mathlib.Core.Path.{_≡_, ap, _∙_}
 use mathlib.Core.List.{List, _++_}
 use Prim.Native.Nat.{ℕ, _+_, _*_, _≤_, _<_}
-use native.Mathlib.Decide.{ℕ-discrete, decLe}
+use native.Mathlib.Decide.{decLe}
 use native.Mathlib.Omega.{arith}
 use borrow.Author.Tests.{le-leb, lt-leb}
 use lib.ListN.{length, length-append}
 use Rattle.record.specs.Fields.{recordBytes}
 use Rattle.stock.specs.Stock.{mostRecords}
 use Rattle.ledger.specs.Stock.{fresh}
-use Rattle.ledger.specs.History.{recordsOf, Run, runOf}
-use Rattle.ledger.proofs.History.{records-join, run-refused, run-roomy, Counts, run-counts}
+use Rattle.ledger.specs.History.{recordsOf, runOf}
+use Rattle.ledger.proofs.History.{records-join, run-refused, run-roomy, run-counts}
 use Rattle.line.specs.Listing.{runText, wholeRun, listingOf, mostLines, roomFor}
 
 -- More records than a ledger takes are not all accepted.

@@ -1,14 +1,13 @@
 -- The lines of output records: one more behind the others, and that those of a run are the lines of its accepted records.
 use mathlib.Core.Path.{_≡_, refl, sym, ap, _∙_}
 use mathlib.Core.List.{List, [], _∷_, _++_, append-assoc, append-nil}
-use Prim.Native.Nat.{ℕ, zero, suc, _+_, _-_, _*_, _≤_}
+use Prim.Native.Nat.{ℕ, zero, suc, _+_, _-_, _*_}
 use native.Mathlib.Decide.{ℕ-discrete}
 use native.Mathlib.Numerals.{add-one}
 use native.Mathlib.Omega.{arith}
 use lib.ListN.{length, drop, length-append}
 use lib.Seq.{drop-drop, drop-at}
 use Rattle.record.specs.Fields.{recordBytes}
-use Rattle.output.proofs.Laws.{Says}
 use Rattle.ledger.specs.Refusal.{refusalOf}
 use Rattle.ledger.specs.Take.{acceptedOf, outputRecord, outputFields}
 use Rattle.ledger.specs.History.{Turn, outputs, Run, runOf}
@@ -16,9 +15,8 @@ use Rattle.ledger.specs.declared.book.Ledger.{Ledger}
 use Rattle.ledger.proofs.Accepted.{accepted}
 use Rattle.ledger.proofs.Fits.{output-says}
 use Rattle.ledger.proofs.Take.{output-length}
-use Rattle.ledger.proofs.History.{onFrom, stopped, run-goes-on, run-stops, run-ends}
-use Rattle.line.specs.Line.{acceptedText}
-use Rattle.line.specs.Listing.{answerText, linesOf, endText, runText, outputText, outputLines}
+use Rattle.ledger.proofs.History.{onFrom, run-goes-on, run-stops, run-ends}
+use Rattle.line.specs.Listing.{answerText, linesOf, runText, outputText, outputLines}
 
 lines-next : (k : ℕ) (bytes : List ℕ) → outputLines bytes (suc k) ≡ outputLines bytes k ++ outputText (drop (48 * k) bytes)
 unfolding outputLines

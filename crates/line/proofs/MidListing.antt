@@ -1,11 +1,11 @@
 -- Where a listing stands at the head of its loop, and how a stretch and each end go from there.
 use mathlib.Core.Path.{_≡_, refl, sym, ap, _∙_}
-use mathlib.Core.List.{List, [], _∷_, _++_, append-assoc, append-nil}
-use Prim.Native.Nat.{ℕ, _+_, _-_, _*_, _/_, _≤_, _<_}
+use mathlib.Core.List.{List, [], _++_, append-assoc, append-nil}
+use Prim.Native.Nat.{ℕ, _+_, _-_, _*_, _≤_, _<_}
 use native.Mathlib.Decide.{decLe}
 use native.Mathlib.Omega.{arith}
-use borrow.Author.Tests.{eq-eqb, ne-eqb, le-leb, lt-leb}
-use lib.ListN.{length, take, drop, length-drop, length-append, length-take, take-append-drop, drop-of-length-le}
+use borrow.Author.Tests.{ne-eqb, le-leb, lt-leb}
+use lib.ListN.{length, take, drop, length-drop, length-append, length-take, take-append-drop}
 use lib.Seq.{length-take-le, take-at, drop-at, drop-drop, take-all, sets-eq}
 use Rattle.record.specs.Fields.{recordBytes}
 use Rattle.stock.specs.Stock.{mostRecords}

@@ -1,5 +1,5 @@
 -- Laws of numbers as bytes, over the count of bytes: wide reads and writes are two narrow ones, and what was written is read back.
-use mathlib.Core.Path.{_≡_, refl, sym, ap, _∙_}
+use mathlib.Core.Path.{_≡_, refl, ap, _∙_}
 use mathlib.Core.List.{List, [], _∷_, _++_}
 use Prim.Native.Nat.{ℕ, zero, suc, _+_, _*_, _/_, _%_, _^_, _≤_, _<_}
 use native.Mathlib.Nat.{zero-add, add-zero, suc-add, pow-zero, pow-suc, pow-succ', div-div-eq-div-mul, div-one}

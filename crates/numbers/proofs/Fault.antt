@@ -1,10 +1,10 @@
 -- Laws of faults: where the refusal is 0, the fault with any number is not there; a fault is named by its number, not by its place.
-use mathlib.Core.Path.{_≡_, refl, ap}
-use mathlib.Core.Bool.{Bool, true, false, cond, _&&_}
-use mathlib.Core.List.{List, [], _∷_, _++_}
+use mathlib.Core.Path.{_≡_, refl}
+use mathlib.Core.Bool.{Bool, true, false, cond}
+use mathlib.Core.List.{List, [], _∷_}
 use Prim.Native.Nat.{ℕ, zero, suc, _≤_}
 use native.Mathlib.Omega.{arith}
-use borrow.Author.Tests.{leb-true, ne-eqb}
+use borrow.Author.Tests.{leb-true}
 use lib.Dec.{eqb, leb}
 use Rattle.numbers.specs.Fault.{Fault, _when_, between, firstOf, ahead}
 use Rattle.numbers.proofs.Eight.{both-true}

@@ -1,7 +1,7 @@
 -- Document 01, 'Refusal numbers, tested in this order': tests, and faults by their numbers, for every crate that refuses.
-use mathlib.Core.Bool.{Bool, true, false, cond, _&&_}
+use mathlib.Core.Bool.{Bool, cond, _&&_}
 use mathlib.Core.List.{List, [], _∷_}
-use Prim.Native.Nat.{ℕ, zero, suc}
+use Prim.Native.Nat.{ℕ}
 use lib.Dec.{eqb, leb}
 
 infix 68 _when_

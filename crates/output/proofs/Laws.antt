@@ -1,5 +1,5 @@
 -- What an output record says is read back from its bytes.
-use mathlib.Core.Path.{_≡_, refl}
+use mathlib.Core.Path.{_≡_}
 use mathlib.Core.List.{List, _++_}
 use Prim.Native.Nat.{ℕ, _^_, _<_}
 use Rattle.numbers.specs.Bytes.{numberAt}

@@ -1,13 +1,11 @@
 -- Laws of a record: what its ranges say of its factors, and how much a deposit can be.
 use mathlib.Core.Path.{_≡_, refl}
-use mathlib.Core.Bool.{Bool, true}
-use mathlib.Core.List.{List, [], _∷_}
+use mathlib.Core.Bool.{true}
+use mathlib.Core.List.{List}
 use Prim.Native.Nat.{ℕ, _+_, _*_, _≤_}
 use native.Mathlib.Nat.{mul-le-mul}
 use native.Mathlib.Omega.{arith}
 use borrow.Author.Tests.{leb-true}
-use lib.Dec.{leb}
-use Rattle.numbers.specs.Fault.{between}
 use Rattle.numbers.proofs.Eight.{all-true}
 use Rattle.numbers.proofs.Fault.{between-high}
 use Rattle.waste.specs.Waste.{massLimit, mostCarbon, carbonOf}

@@ -5,7 +5,7 @@ use Prim.Native.Nat.{ℕ, zero, suc, _≤_, _<_, zero-le}
 use native.Mathlib.Omega.{arith}
 use lib.Dec.{T, leb, leb→le}
 use lib.ListN.{length, getD, List·getD-eq-default}
-use Rattle.waste.specs.Waste.{numbered, carbons, carbonOf, mostCarbon, groupOf, none, rateOf, corrections, correctionOf}
+use Rattle.waste.specs.Waste.{numbered, carbons, carbonOf, mostCarbon, groupOf, none, corrections, correctionOf}
 
 pub past-list : (xs : List ℕ) (k : ℕ) → length xs < k → 0 ≡ numbered xs k
 past-list xs k h = sym (List·getD-eq-default (0 ∷ xs) 0 h)

@@ -1,11 +1,8 @@
 -- The cell that was meant, weighed.
-use mathlib.Core.Path.{_≡_, ap, _∙_}
-use Prim.Native.Nat.{ℕ}
+use mathlib.Core.Path.{ap, _∙_}
 use borrow.Author.Needs.{needs}
 use borrow.Author.Tests.{eq-eqb, ne-eqb}
-use Rattle.door.specs.Cell.{answerTo}
 use Rattle.door.specs.declared.cell.Numbers.{Numbers}
-use Rattle.abi.specs.Entries.{cellOf}
 use Rattle.abi.proofs.landfill_cell.Statement.{statement}
 use Rattle.abi.proofs.landfill_cell.Tie as tie
 

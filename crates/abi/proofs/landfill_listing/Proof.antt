@@ -1,5 +1,5 @@
 -- The listing decides.
-use mathlib.Core.Path.{_≡_, ap}
+use mathlib.Core.Path.{ap}
 use borrow.Author.Needs.{needs}
 use Rattle.line.specs.declared.file.Listed.{Listed}
 use Rattle.abi.proofs.landfill_listing.Statement.{statement}

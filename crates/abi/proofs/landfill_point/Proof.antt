@@ -1,8 +1,6 @@
 -- The chart's point, number by number.
 use mathlib.Core.Path.{ap}
-use mathlib.Core.Path.{_≡_}
 use borrow.Author.Needs.{needs}
-use lib.Ieee.{Float}
 use Rattle.door.specs.declared.point.Charted.{Charted}
 use Rattle.abi.proofs.landfill_point.Statement.{statement}
 use Rattle.abi.proofs.landfill_point.Tie as tie

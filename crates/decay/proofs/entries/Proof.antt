@@ -1,9 +1,9 @@
 -- Before place t the loop has filled in the entries of the first t rates.
-use mathlib.Core.Path.{_≡_, refl, _∙_}
-use Prim.Native.Nat.{_-_, _≤_, _<_}
+use mathlib.Core.Path.{_≡_, _∙_}
+use Prim.Native.Nat.{_-_, _≤_}
 use native.Mathlib.Omega.{arith}
 use borrow.Author.Needs.{needs}
-use lib.ListN.{length, getD}
+use lib.ListN.{getD}
 use Rattle.numbers.proofs.Eight.{filled, filled-more}
 use Rattle.decay.specs.Series.{entryOf}
 use Rattle.decay.proofs.Rule.{looked-up}

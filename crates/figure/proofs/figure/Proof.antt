@@ -1,6 +1,6 @@
 -- The three lines of the chain; factors within their ranges are all that they ask.
 use mathlib.Core.Path.{_≡_, sym, _∙_}
-use mathlib.Core.Bool.{true, false}
+use mathlib.Core.Bool.{true}
 use borrow.Author.Needs.{needs}
 use borrow.Author.Tests.{not-true, not-false}
 use Rattle.waste.proofs.Laws.{correction-most}

@@ -1,5 +1,4 @@
 -- The entries of the types' rates in the climate.
-use mathlib.Core.Path.{_∙_}
 use borrow.Author.Needs.{needs}
 use Rattle.stock.specs.Stock.{entryAt}
 use Rattle.stock.proofs.entries.Statement.{statement}

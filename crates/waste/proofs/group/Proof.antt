@@ -1,8 +1,4 @@
 -- Each type's group is the one of its number; whatever is left has none.
-use mathlib.Core.Path.{_≡_, refl}
-use mathlib.Core.List.{_∷_}
-use Prim.Native.Nat.{ℕ, zero, suc}
-use Rattle.waste.specs.Waste.{groupOf, none}
 use Rattle.waste.proofs.Laws.{no-group}
 use Rattle.waste.proofs.group.Statement.{statement}
 use Rattle.waste.proofs.group.Tie as tie

@@ -1,5 +1,4 @@
 -- An accepted record of a ledger with records has its kind and climate; of a fresh one it is the file's first.
-use mathlib.Core.Path.{_≡_}
 use native.Mathlib.Omega.{arith}
 use borrow.Author.Needs.{needs}
 use denote.Ref.{now}

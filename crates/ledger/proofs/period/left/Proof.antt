@@ -1,5 +1,4 @@
 -- An entry is below 10^9, so what is left is at most what was held.
-use mathlib.Core.Path.{_∙_}
 use Prim.Native.Nat.{_≤_, _^_}
 use native.Mathlib.Omega.{arith}
 use borrow.Author.Needs.{needs}

@@ -1,11 +1,10 @@
 -- `MidListing` holds at the head of the loop; each way out and each stretch is a law of it.
 use mathlib.Core.Path.{_≡_, refl, sym, ap, _∙_}
-use mathlib.Core.List.{List}
-use Prim.Native.Nat.{ℕ, _+_, _-_, _*_, _≤_, _<_}
+use Prim.Native.Nat.{_+_, _-_, _*_, _≤_}
 use native.Mathlib.Omega.{arith}
 use borrow.Author.Needs.{needs}
 use denote.Ref.{now}
-use lib.ListN.{length, take, drop}
+use lib.ListN.{length, take}
 use Rattle.ledger.specs.History.{outcomeOf, outOf}
 use Rattle.ledger.specs.declared.answer.Outcome.{Outcome}
 use Rattle.ledger.proofs.History.{records-count}
@@ -13,7 +12,7 @@ use Rattle.line.specs.Line.{refusedText}
 use Rattle.line.specs.Listing.{linesOf, roomFor}
 use Rattle.line.specs.Writing.{Writes}
 use Rattle.line.proofs.Line.{line-is}
-use Rattle.line.proofs.MidListing.{MidListing, no-room, listing-starts, listing-ends, ran, counts, output-fits, output-size, stretch-fits, refusal-fits, lines-are, stretch-on, stretch-ends}
+use Rattle.line.proofs.MidListing.{MidListing, no-room, listing-starts, listing-ends, ran, output-fits, output-size, stretch-fits, refusal-fits, lines-are, stretch-on, stretch-ends}
 use Rattle.line.proofs.file.listing.Statement.{statement}
 use Rattle.line.proofs.file.listing.Tie as tie
 

@@ -1,11 +1,10 @@
 -- The loop has written the lines of the first i output records, none longer than 90 bytes.
-use mathlib.Core.Path.{_≡_, refl, sym, ap, _∙_}
-use mathlib.Core.List.{List, []}
-use Prim.Native.Nat.{ℕ, _+_, _-_, _*_, _≤_}
+use mathlib.Core.Path.{_≡_, refl}
+use Prim.Native.Nat.{_+_, _-_, _*_, _≤_}
 use native.Mathlib.Omega.{arith}
 use borrow.Author.Needs.{needs}
 use denote.Ref.{now}
-use lib.ListN.{length, take, drop}
+use lib.ListN.{drop}
 use Rattle.line.specs.Listing.{outputText, outputLines}
 use Rattle.line.specs.Writing.{Writes}
 use Rattle.line.proofs.Line.{line-is}

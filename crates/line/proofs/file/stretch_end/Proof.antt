@@ -1,12 +1,12 @@
 -- What is left, or 1536 bytes of it.
-use mathlib.Core.Path.{_≡_, sym, _∙_}
+use mathlib.Core.Path.{sym, _∙_}
 use mathlib.Core.List.{List}
 use Prim.Native.Nat.{ℕ, _+_, _-_, _≤_, _<_}
 use native.Mathlib.Nat.{add-sub-cancel-left}
 use native.Mathlib.Omega.{arith}
 use borrow.Author.Needs.{needs}
 use denote.Ref.{now}
-use lib.ListN.{length, take, drop, length-drop, drop-of-length-le}
+use lib.ListN.{length, drop, length-drop, drop-of-length-le}
 use lib.Seq.{take-all, drop-drop}
 use Rattle.line.specs.Listing.{Stretch}
 use Rattle.line.proofs.file.stretch_end.Statement.{statement}

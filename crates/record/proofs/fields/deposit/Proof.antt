@@ -1,12 +1,12 @@
 -- No type has more carbon than wood, so the product of any mass fits; there is no ninth type.
-use mathlib.Core.Path.{_≡_, refl}
-use Prim.Native.Nat.{ℕ, _+_, _*_, _^_, _≤_, _<_}
+use mathlib.Core.Path.{_≡_}
+use Prim.Native.Nat.{_+_, _*_, _^_, _≤_, _<_}
 use native.Mathlib.Omega.{arith}
 use borrow.Author.Needs.{needs}
 use lib.ListN.{List·getD-eq-default}
 use mathlib.Core.List.{_∷_}
 use Rattle.waste.specs.Waste.{carbons, carbonOf, mostCarbon}
-use Rattle.record.specs.Fields.{massOf, depositOf}
+use Rattle.record.specs.Fields.{depositOf}
 use Rattle.record.proofs.Laws.{carbon-within}
 use Rattle.record.proofs.fields.deposit.Statement.{statement}
 use Rattle.record.proofs.fields.deposit.Tie as tie

@@ -1,5 +1,5 @@
 -- Each type by itself, inert waste having no carbon; the releases of a sound ledger add up to less than 64 bits hold.
-use mathlib.Core.Path.{_≡_, ap}
+use mathlib.Core.Path.{_≡_}
 use Prim.Native.Nat.{ℕ, _+_, _*_, _≤_, _<_}
 use native.Mathlib.Nat.{zero-add, add-zero, add-assoc}
 use native.Mathlib.Omega.{arith}

@@ -1,16 +1,16 @@
 -- Before place t the loop has filled in the releases of the first t types: what was held less what is left.
-use mathlib.Core.Path.{_≡_, refl, ap, _∙_}
+use mathlib.Core.Path.{_≡_, ap, _∙_}
 use mathlib.Core.List.{List}
 use Prim.Native.Nat.{ℕ, _+_, _-_, _≤_, _<_}
 use native.Mathlib.Omega.{arith}
 use borrow.Author.Needs.{needs}
 use lib.ListN.{getD}
 use Rattle.numbers.proofs.Eight.{filled, filled-more, eight-at}
-use Rattle.record.specs.Fields.{kindOf, climateOf, depositOf, mostDeposit}
+use Rattle.record.specs.Fields.{kindOf, climateOf, mostDeposit}
 use Rattle.record.proofs.Laws.{deposit-most}
 use Rattle.stock.specs.Stock.{mostBrought, entryAt}
 use Rattle.ledger.specs.Stock.{stockAt, held, newStock, release}
-use Rattle.ledger.proofs.Accepted.{Accepted, accepted}
+use Rattle.ledger.proofs.Accepted.{accepted}
 use Rattle.stock.proofs.Laws.{entry-small}
 use Rattle.ledger.proofs.Step.{left-most}
 use Rattle.ledger.proofs.book.Ledger.released.Statement.{statement}

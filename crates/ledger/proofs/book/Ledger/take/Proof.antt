@@ -1,16 +1,15 @@
 -- A run of one record is the step; its releases are worked out from what is left, and its numbers are read back from its output.
-use mathlib.Core.Path.{_≡_, refl, sym, ap, _∙_}
-use mathlib.Core.List.{List, _++_}
-use Prim.Native.Nat.{ℕ, _≤_}
+use mathlib.Core.Path.{_≡_, sym, ap, _∙_}
+use mathlib.Core.List.{_++_}
+use Prim.Native.Nat.{_≤_}
 use native.Mathlib.Omega.{arith}
 use borrow.Author.Needs.{needs}
 use denote.Ref.{now}
 use lib.ListN.{length, drop}
-use Rattle.numbers.specs.Bytes.{numberAt}
 use Rattle.output.proofs.Laws.{Says}
 use Rattle.ledger.specs.Stock.{after}
 use Rattle.ledger.specs.Refusal.{refusalOf}
-use Rattle.ledger.specs.Take.{acceptedOf, takeOf, outputRecord, outputFields}
+use Rattle.ledger.specs.Take.{acceptedOf, outputRecord, outputFields}
 use Rattle.ledger.specs.declared.answer.Outcome.{Outcome}
 use Rattle.ledger.proofs.Accepted.{Accepted, accepted, has-room, room-alike}
 use Rattle.ledger.proofs.Take.{taken}

@@ -1,12 +1,10 @@
 -- A sound ledger's totals are small.
-use mathlib.Core.Path.{_≡_, sym, _∙_}
-use mathlib.Core.Bool.{true}
+use mathlib.Core.Path.{sym, _∙_}
 use native.Mathlib.Omega.{arith}
 use borrow.Author.Needs.{needs}
 use borrow.Author.Tests.{not-true, not-false}
 use Rattle.stock.proofs.Laws.{sum-fits}
 use Rattle.ledger.specs.Stock.{broughtAt, stockAt}
-use Rattle.ledger.specs.Refusal.{sound}
 use Rattle.ledger.specs.Take.{totalStock, totalBrought, totalsOf}
 use Rattle.ledger.proofs.Sound.{sound-is}
 use Rattle.ledger.proofs.book.Ledger.totals.Statement.{statement}
