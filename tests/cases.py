@@ -14,16 +14,24 @@ LONGEST = 65536  # bytes of a payload, and of an output buffer
 IMAGE = 136  # bytes of a ledger image
 
 
-def image(ledger, ignored=bytes(4)):
-    """The 136 bytes of a ledger; the ignored ones stand between climate and T."""
+NO_LEDGER = Ledger(65535, 0, 0)  # what bytes that are no image count as: unsound, with too many records
+
+
+def image(ledger, zeros=bytes(4)):
+    """The 136 bytes of a ledger; with other bytes than zeros between climate and T they are no image."""
     head = reference.little([(ledger.n, 2), (ledger.kind, 1), (ledger.climate, 1)])
-    return head + ignored + reference.little((value, 8) for value in ledger.T + ledger.R)
+    return head + zeros + reference.little((value, 8) for value in ledger.T + ledger.R)
 
 
 def read_image(data):
-    """The ledger of 136 bytes."""
+    """The ledger that 136 bytes say, whatever stands between climate and T."""
     carbon = [number(data, at, 8) for at in range(8, IMAGE, 8)]
     return Ledger(number(data, 0, 2), data[2], data[3], tuple(carbon[:8]), tuple(carbon[8:]))
+
+
+def ledger_of(data):
+    """The ledger of the image that stands first in a payload."""
+    return NO_LEDGER if any(data[4:8]) else read_image(data)
 
 
 def case(letter, payload):
@@ -37,14 +45,14 @@ def decay_line(payload):
 
 def step_line(payload):
     lent = b"\xa5" * number(payload, 136, 2)
-    answer = reference.step(read_image(payload), payload[138:], lent)
+    answer = reference.step(ledger_of(payload), payload[138:], lent)
     numbers = [answer.refusal, *fields(answer.ledger), *answer.releases, answer.x0, answer.figure, answer.bound]
     return spaced(numbers) + " " + hexed(answer.output)
 
 
 def run_line(payload):
     lent = b"\xa5" * min(number(payload, 136, 4), LONGEST)
-    answer = reference.run(read_image(payload), payload[140:], lent)
+    answer = reference.run(ledger_of(payload), payload[140:], lent)
     return spaced([answer.accepted, answer.refusal, *fields(answer.ledger)]) + " " + hexed(answer.output)
 
 

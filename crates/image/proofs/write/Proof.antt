@@ -22,7 +22,7 @@ returns-2 c =
     let s = test .before .before .args in
     let l = s .ledger in
     let out = now (s .out) in
-    let size : length out ≡ 136 = test .if1 .left in
+    let size : length out ≡ 136 = omega (arith, test .if1 .left) in
     let room : 8 ≤ length out = omega arith in
     simp (eq-eqb (length out) 136 size)
     (image-written (headOf (l .n) (l .kind) (l .climate)) (rowOf (λ t. getD (l .brought) t 0) 8) (rowOf (λ t. getD (l .stock) t 0) 8) out
