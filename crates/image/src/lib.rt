@@ -30,13 +30,9 @@ pub fn read(bytes: &[u8]) -> Ledger
             stock: numbers::read_eight(bytes, 72),
         };
     }
-    Ledger {
-        n: 65535,
-        kind: 0,
-        climate: 0,
-        brought: [0; 8],
-        stock: [0; 8],
-    }
+    let mut none = Ledger::fresh();
+    none.n = 65535;
+    none
 }
 
 // Writes the image of a ledger. A buffer that is not 136 bytes keeps its values.

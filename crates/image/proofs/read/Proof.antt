@@ -4,6 +4,7 @@ use mathlib.Core.Bool.{true}
 use native.Mathlib.Omega.{arith}
 use borrow.Author.Needs.{needs}
 use lib.ListN.{length}
+use Rattle.ledger.specs.Stock.{fresh}
 use Rattle.image.specs.Image.{isImage, saidBy, noLedger, ledgerOf}
 use Rattle.image.proofs.Laws.{image-size}
 use Rattle.image.proofs.read.Statement.{statement}
@@ -21,8 +22,8 @@ unfolding ledgerOf saidBy
 returns c = simp (is (c .before .before .before .before .before), c .before .before .before .before .read-u16 .ensures .0, c .before .read-eight .ensures, c .read-eight2 .ensures)
 
 returns-2 : tie.Need-returns-2
-unfolding ledgerOf noLedger
-returns-2 c = simp (sym (c .before .is-image .ensures) ∙ c .if1 .left)
+unfolding ledgerOf noLedger fresh
+returns-2 c = simp (sym (c .before .before .is-image .ensures) ∙ c .before .if1 .left, c .fresh .ensures)
 
 pub read-spec : {M : Type 1} → statement M
 read-spec =
@@ -34,4 +35,4 @@ read-spec =
     (λ c. omega (arith, size (c .before .before .before)))
     (λ c κs. omega (arith, size (c .before .before .before)))
     (λ c κs. omega (arith, size (c .before .before .before .before)))
-    returns returns-2)
+    returns (λ c κs. search needs) returns-2)
