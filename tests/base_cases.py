@@ -13,20 +13,22 @@ from histories import random_ledger, random_record, replaced
 from reference import BYTES, FRESH, MASS_LIMIT, RECORDS, Ledger, little, write_record
 
 
-def step_case(ledger, data, room=BYTES, expect=None, ignored=bytes(4)):
+def step_case(ledger, data, room=BYTES, expect=None, zeros=bytes(4)):
     """One step; expect is the refusal that it is built for."""
-    found = reference.refusal_of(ledger, data, room)
+    image = cases.image(ledger, zeros)
+    found = reference.refusal_of(cases.ledger_of(image), data, room)
     if expect not in (None, found):
         raise SystemExit(f"step built for {expect}, found {found}: {ledger} room {room} {data.hex()}")
-    return case("s", cases.image(ledger, ignored) + little([(room, 2)]) + data)
+    return case("s", image + little([(room, 2)]) + data)
 
 
-def run_case(ledger, data, room, expect=None):
+def run_case(ledger, data, room, expect=None, zeros=bytes(4)):
     """A whole run; expect is the accepted count and the refusal that it is built for."""
-    found = reference.run(ledger, data, bytes(min(room, cases.LONGEST)))[1:3]
+    image = cases.image(ledger, zeros)
+    found = reference.run(cases.ledger_of(image), data, bytes(min(room, cases.LONGEST)))[1:3]
     if expect not in (None, found):
         raise SystemExit(f"run built for {expect}, found {found}: {ledger} room {room}")
-    return case("r", cases.image(ledger) + little([(room, 4)]) + data)
+    return case("r", image + little([(room, 4)]) + data)
 
 
 def offer_case(offer, expect):
@@ -110,11 +112,12 @@ def steps_at_limits(rng):
 
 
 def steps_at_random(rng):
-    """Accepted ones, ones with a byte changed in image or record, and arbitrary images."""
+    """Accepted ones, ones with a byte changed in image or record, and arbitrary ledgers; beside them bytes that are no image."""
     for kind, climate in KINDS_AND_CLIMATES * 10:
         ledger = random_ledger(rng, kind, climate)
-        record = random_record(rng, ledger.n, kind, climate)
-        yield step_case(ledger, write_record(record), expect=0, ignored=rng.randbytes(4))
+        data = write_record(random_record(rng, ledger.n, kind, climate))
+        yield step_case(ledger, data, expect=0)
+        yield step_case(ledger, data, expect=3, zeros=rng.randbytes(4))
     for _ in range(60):
         offer = fair_offer(rng)
         data = bytearray(cases.image(offer.ledger) + offer.data())
@@ -125,7 +128,8 @@ def steps_at_random(rng):
         ledger = arbitrary_ledger(rng)
         follower = random_record(rng, ledger.n % 1200, max(ledger.kind, 1), max(ledger.climate, 1))
         data = rng.choice((rng.randbytes(BYTES), write_record(follower)))
-        yield step_case(ledger, data, ignored=rng.randbytes(4))
+        yield step_case(ledger, data)
+        yield step_case(ledger, data, expect=3, zeros=rng.randbytes(4))
 
 
 def arbitrary_ledger(rng):
@@ -163,6 +167,10 @@ def runs_by_rule(rng):
     yield run_case(FRESH, random_file(rng, 0, 1, 2, RECORDS + 1), 2**32 - 1, (RECORDS, 4))
     greatest = [greatest_record(n, 2, 4) for n in range(RECORDS)]
     yield run_case(FRESH, b"".join(map(write_record, greatest)), BYTES * RECORDS, (RECORDS, 0))
+    for place in range(4):
+        zeros = bytes(replaced((0,) * 4, place, 1))
+        yield run_case(FRESH, three, 144, (0, 3), zeros)
+        yield run_case(FRESH, b"", 50, (0, 0), zeros)
 
 
 def fault_after_one(rng, fault):
