@@ -16,7 +16,8 @@ use Rattle.ledger.proofs.Accepted.{accepted}
 use Rattle.ledger.proofs.Fits.{output-says}
 use Rattle.ledger.proofs.Take.{output-length}
 use Rattle.ledger.proofs.History.{onFrom, run-goes-on, run-stops, run-ends}
-use Rattle.line.specs.Listing.{answerText, linesOf, runText, outputText, outputLines}
+use Rattle.line.specs.Listing.{answerText, linesOf, runText}
+use Rattle.line.specs.Writing.{outputText, outputLines}
 
 lines-next : (k : ℕ) (bytes : List ℕ) → outputLines bytes (suc k) ≡ outputLines bytes k ++ outputText (drop (48 * k) bytes)
 unfolding outputLines

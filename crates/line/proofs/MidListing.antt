@@ -14,8 +14,8 @@ use Rattle.ledger.specs.History.{outputs, recordsOf, Run, runOf, outOf}
 use Rattle.ledger.specs.declared.book.Ledger.{Ledger}
 use Rattle.ledger.proofs.History.{no-records, records-join, records-count, onFrom, run-ends, run-join, run-refused, run-roomy, Counts, run-counts, run-most, outputs-length}
 use Rattle.line.specs.Line.{refusedText}
-use Rattle.line.specs.Listing.{linesOf, endText, runText, wholeRun, listingOf, mostLines, roomFor, listedOf, textOf, LendableText, outputLines}
-use Rattle.line.specs.Writing.{Writes}
+use Rattle.line.specs.Listing.{linesOf, endText, runText, wholeRun, listingOf, mostLines, roomFor, listedOf, textOf, LendableText}
+use Rattle.line.specs.Writing.{Writes, outputLines}
 use Rattle.line.specs.declared.file.Listed.{Listed}
 use Rattle.line.proofs.Lines.{lines-say, text-join}
 

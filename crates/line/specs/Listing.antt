@@ -3,10 +3,9 @@
 use mathlib.Core.Path.{_≡_}
 use mathlib.Core.Bool.{cond}
 use mathlib.Core.List.{List, [], _∷_, _++_}
-use Prim.Native.Nat.{ℕ, zero, suc, _+_, _-_, _*_, _≤_, _<_}
+use Prim.Native.Nat.{ℕ, _+_, _*_, _≤_}
 use lib.Dec.{eqb, leb}
 use lib.ListN.{length, take, drop}
-use Rattle.numbers.specs.Bytes.{numberAt}
 use Rattle.record.specs.Fields.{recordBytes}
 use Rattle.stock.specs.Stock.{mostRecords}
 use Rattle.ledger.specs.Stock.{fresh}
@@ -63,20 +62,3 @@ textOf file text = cond (leb (roomFor file) (length text)) (listingOf file ++ dr
 -- What a caller needs to lend the listing, `&text[..length]`; it follows from `listedOf` and `textOf`.
 abbrev pub LendableText : (len : ℕ) (text : List ℕ) → Type 0
 LendableText len text = (len ≤ length text) × (len ≡ length (take len text))
-
--- The line that an output record says, and the lines of k output records one after another.
-unfoldable pub outputText : List ℕ → List ℕ
-outputText bytes =
-    acceptedText (numberAt 2 bytes 0) (numberAt 8 bytes 8) (numberAt 8 bytes 16) (numberAt 8 bytes 24) (numberAt 8 bytes 32)
-
-unfoldable pub outputLines : List ℕ → ℕ → List ℕ
-outputLines bytes zero = []
-outputLines bytes (suc k) = outputText bytes ++ outputLines (drop recordBytes bytes) k
-
--- A stretch of a file from a place: 32 records, or what is left.
-pub record Stretch (file : List ℕ) (at end : ℕ) : Type 0 where
-  pub in-file : end ≤ length file
-  pub on : at ≤ end
-  pub part : take (end - at) (drop at file) ≡ take 1536 (drop at file)
-  pub rest : drop end file ≡ drop 1536 (drop at file)
-  pub far : at < length file → at < end

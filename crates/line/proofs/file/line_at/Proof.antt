@@ -7,7 +7,7 @@ use borrow.Author.Needs.{needs}
 use denote.Ref.{now}
 use Rattle.numbers.specs.Bytes.{numberAt}
 use Rattle.numbers.proofs.Bytes.{number-drop}
-use Rattle.line.specs.Listing.{outputText}
+use Rattle.line.specs.Writing.{outputText}
 use Rattle.line.proofs.file.line_at.Statement.{statement}
 use Rattle.line.proofs.file.line_at.Tie as tie
 

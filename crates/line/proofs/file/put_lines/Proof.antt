@@ -5,8 +5,7 @@ use native.Mathlib.Omega.{arith}
 use borrow.Author.Needs.{needs}
 use denote.Ref.{now}
 use lib.ListN.{drop}
-use Rattle.line.specs.Listing.{outputText, outputLines}
-use Rattle.line.specs.Writing.{Writes}
+use Rattle.line.specs.Writing.{Writes, outputText, outputLines}
 use Rattle.line.proofs.Line.{line-is}
 use Rattle.line.proofs.Lines.{lines-more}
 use Rattle.line.proofs.Writing.{write-on}

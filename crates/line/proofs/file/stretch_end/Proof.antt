@@ -8,7 +8,7 @@ use borrow.Author.Needs.{needs}
 use denote.Ref.{now}
 use lib.ListN.{length, drop, length-drop, drop-of-length-le}
 use lib.Seq.{take-all, drop-drop}
-use Rattle.line.specs.Listing.{Stretch}
+use Rattle.line.specs.Writing.{Stretch}
 use Rattle.line.proofs.file.stretch_end.Statement.{statement}
 use Rattle.line.proofs.file.stretch_end.Tie as tie
 
