@@ -1,0 +1,146 @@
+-- Where a run stands at the head of its loop, and how a turn and each end go from there.
+use mathlib.Core.Path.{_≡_, refl, sym, ap, _∙_}
+use mathlib.Core.Bool.{Bool}
+use mathlib.Core.List.{List, [], _∷_, _++_, append-assoc, append-nil}
+use Prim.Native.Nat.{ℕ, _+_, _-_, _*_, _≤_, _<_}
+use native.Mathlib.Omega.{arith}
+use lib.ListN.{length, take, drop, length-drop, length-append, length-take, take-append-drop, drop-of-length-le}
+use lib.Seq.{length-take-le, take-at, drop-at, drop-drop, take-all}
+use Rattle.record.specs.Fields.{recordBytes}
+use Rattle.run.specs.Period.{after, Fit}
+use Rattle.ledger.specs.Refusal.{sound, refusalOf}
+use Rattle.run.specs.Take.{acceptedOf, outputRecord, writtenOf}
+use Rattle.run.specs.History.{Turn, outputs, recordsOf, runOf, outcomeOf, outOf}
+use Rattle.ledger.specs.declared.book.Ledger.{Ledger}
+use Rattle.ledger.proofs.Accepted.{accepted, was-sound, has-room, room-alike}
+use Rattle.run.proofs.After.{accepted-sound}
+use Rattle.run.proofs.Take.{output-length, refused-writes-nothing}
+use Rattle.run.proofs.History.{no-records, first-record, stopped, onFrom, acceptedTurn, run-goes-on, run-stops, run-ends, on-from, outputs-length, outputs-join}
+
+pub record MidRun (l₀ : Ledger) (file out₀ entries : List ℕ) (good : Bool) (out : List ℕ) (l : Ledger) (at count : ℕ) : Type 0 where
+  pub flag : good ≡ sound l
+  pub fit : Fit entries l (take 48 (drop at file))
+  pub steps : at ≡ 48 * count
+  pub in-file : at ≤ length file
+  pub in-out : at ≤ length out
+  pub as-long : length out ≡ length out₀
+  pub untouched : drop at out ≡ drop at out₀
+  pub done : List Turn
+  pub counted : length done ≡ count
+  pub put-out : take at out ≡ outputs done
+  pub so-far : runOf l₀ (recordsOf file) (length out₀) ≡ onFrom done (runOf l (recordsOf (drop at file)) (length out - at))
+
+pub run-starts : (l : Ledger) (file out entries : List ℕ) (good : Bool) → good ≡ sound l → Fit entries l (take 48 file) → MidRun l file out entries good out l 0 0
+unfolding outputs
+run-starts l file out entries good flag fit =
+    record {
+      flag = flag;
+      fit = fit;
+      steps = omega arith;
+      in-file = omega arith;
+      in-out = omega arith;
+      as-long = refl;
+      untouched = refl;
+      done = [];
+      counted = refl;
+      put-out = refl;
+      so-far = ap (λ (k : ℕ). runOf l (recordsOf file) k) (omega arith);
+    }
+
+-- the entries of an accepted record are those of the next one that is accepted
+next-fit : (l : Ledger) (bytes next entries : List ℕ) → refusalOf l bytes 48 ≡ 0 → Fit entries l bytes → Fit entries (acceptedOf l bytes .ledger) next
+unfolding acceptedOf after
+next-fit l bytes next entries ok fit ok′ =
+    let same = accepted (after l bytes) next 48 ok′ .same (λ z. omega arith) in
+    fit ok ∙ rw (same .0, same .1)
+
+-- the whole of what is lent from a place on, and what stands behind it
+lent : (out : List ℕ) (at : ℕ) → (take (length out - at) (drop at out) ≡ drop at out) × (drop (length out - at) (drop at out) ≡ [])
+lent out at =
+    (take-all (length out - at) (drop at out) (simp length-drop (omega arith)), drop-of-length-le (drop at out) {i = length out - at} (simp length-drop (omega arith)))
+
+pub lent-length : (out : List ℕ) (at : ℕ) → length (take (length out - at) (drop at out)) ≡ length out - at
+lent-length out at = length-take-le (length out - at) (drop at out) (simp length-drop (omega arith))
+
+-- what comes back from lending the output from a place on to a record that is taken there, and to one that is refused
+module _ (l : Ledger) (bytes out : List ℕ) (at : ℕ) {ys : List ℕ} (e : ys ≡ writtenOf l bytes (take (length out - at) (drop at out))) where
+  abbrev pub back : List ℕ
+  back = take at out ++ (ys ++ drop (length out - at) (drop at out))
+
+  pub back-taken : refusalOf l bytes (length out - at) ≡ 0 → back ≡ take at out ++ (outputRecord (acceptedOf l bytes) ++ drop recordBytes (drop at out))
+  unfolding writtenOf
+  back-taken ok = rw (e, lent-length out at, lent out at .1, ok, lent out at .0, append-nil)
+
+  pub back-refused : (refusalOf l bytes (length out - at) ≡ 0 → ⊥) → back ≡ out
+  back-refused some =
+      rw (e, lent out at .1, append-nil, refused-writes-nothing l bytes (take (length out - at) (drop at out)) (rw (lent-length out at) some), lent out at .0)
+      (take-append-drop at out)
+
+module _ {l₀ : Ledger} {file out₀ entries : List ℕ} {good : Bool} {out : List ℕ} {l : Ledger} {at count : ℕ}
+    (h : MidRun l₀ file out₀ entries good out l at count) where
+  abbrev pub here : List ℕ
+  here = take 48 (drop at file)
+
+  abbrev pub room : ℕ
+  room = length out - at
+
+  -- what the run then answers, and what it leaves in the output
+  abbrev pub Ends : ℕ → Type 0
+  Ends q =
+      (record { ledger = l; accepted = count; refusal = q } ≡ outcomeOf (runOf l₀ (recordsOf file) (length out₀)))
+      × (out ≡ outOf (runOf l₀ (recordsOf file) (length out₀)) out₀)
+
+  -- where the run stops
+  ends : (q : ℕ) → runOf l (recordsOf (drop at file)) room ≡ stopped l q → Ends q
+  unfolding outcomeOf outOf
+  ends q e =
+      let all : runOf l₀ (recordsOf file) (length out₀) ≡ onFrom (h .done) (stopped l q) = h .so-far ∙ ap (onFrom (h .done)) e in
+      let n : length (h .done ++ []) ≡ count = rw append-nil (h .counted) in
+      let long : length (outputs (h .done)) ≡ at = outputs-length (h .done) ∙ omega (arith, h .counted, h .steps) in (
+        (λ i. record { ledger = l; accepted = sym n i; refusal = q }) ∙ ap outcomeOf (sym all),
+        rw (all, append-nil, long, ← h .untouched, ← h .put-out) (sym (take-append-drop at out)),
+      )
+
+  pub at-end : length file - at ≡ 0 → Ends 0
+  at-end e = ends 0 (rw (no-records (drop at file) (length-drop at file ∙ e)) (run-ends l room))
+
+  pub at-refusal : (q : ℕ) → at < length file → refusalOf l here room ≡ q → (q ≡ 0 → ⊥) → Ends q
+  at-refusal q left e ne =
+      ends q
+      (rw (first-record (drop at file) (simp length-drop (omega arith)))
+      (run-stops l here (recordsOf (drop 48 (drop at file))) room q e ne))
+
+  -- an accepted record
+  pub turn-on : (out′ : List ℕ) → at < length file → refusalOf l here room ≡ 0
+      → out′ ≡ take at out ++ (outputRecord (acceptedOf l here) ++ drop 48 (drop at out))
+      → MidRun l₀ file out₀ entries good out′ (acceptedOf l here .ledger) (at + 48) (count + 1)
+  unfolding outputs
+  turn-on out′ left ok e =
+      let o : List ℕ = outputRecord (acceptedOf l here) in
+      let w : List ℕ = take at out in
+      let turn = acceptedTurn l here in
+      let a = accepted l here room ok in
+      let enough : 48 ≤ room = has-room l here room ok in
+      let size : length o ≡ 48 = output-length (acceptedOf l here) in
+      let n : length w ≡ at = length-take-le at out (h .in-out) in
+      let m : length (w ++ o) ≡ at + 48 = simp length-append (omega arith) in
+      let e′ : out′ ≡ (w ++ o) ++ drop 48 (drop at out) = e ∙ sym (append-assoc w o (drop 48 (drop at out))) in
+      let same : length out′ ≡ length out = ap length e′ ∙ simp (length-append, length-drop) (omega arith) in
+      let left′ : room - 48 ≡ length out′ - (at + 48) = omega arith in
+      record {
+        flag = h .flag ∙ was-sound l here room ok ∙ sym (accepted-sound l here a);
+        fit = next-fit l here (take 48 (drop (at + 48) file)) entries (room-alike l here 48 room (omega arith) enough ∙ ok) (h .fit);
+        steps = omega (arith, h .steps);
+        in-file = omega (arith, a .size, length-take 48 (drop at file), length-drop at file);
+        in-out = omega arith;
+        as-long = same ∙ h .as-long;
+        untouched = ap (drop (at + 48)) e′ ∙ drop-at (w ++ o) (drop 48 (drop at out)) (at + 48) m ∙ ap (drop 48) (h .untouched) ∙ drop-drop 48 at out₀;
+        done = h .done ++ (turn ∷ []);
+        counted = length-append (h .done) (turn ∷ []) ∙ omega (arith, h .counted);
+        put-out = ap (take (at + 48)) e′ ∙ take-at (w ++ o) (drop 48 (drop at out)) (at + 48) m
+            ∙ rw (h .put-out, outputs-join (h .done) (turn ∷ []), append-nil);
+        so-far =
+            h .so-far
+            ∙ rw (first-record (drop at file) (simp length-drop (omega arith)), run-goes-on l here (recordsOf (drop 48 (drop at file))) room ok, left′, drop-drop 48 at file)
+            (on-from (h .done) turn (runOf (acceptedOf l here .ledger) (recordsOf (drop (at + 48) file)) (length out′ - (at + 48))));
+      }

@@ -1,0 +1,3 @@
+pub mod Period
+pub mod Take
+pub mod History

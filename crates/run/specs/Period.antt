@@ -1,0 +1,60 @@
+-- Document 01, 'One step': one type in one period, once over the kind. Place t has type t + 1; all carbon is in whole milligrams.
+use mathlib.Core.List.{List}
+use mathlib.Core.Path.{_≡_}
+use Prim.Native.Nat.{ℕ, _+_, _-_, _*_, _/_, _^_}
+use Rattle.numbers.specs.Eight.{eight, sumOf}
+use Rattle.record.specs.Fields.{kindOf, climateOf, depositOf}
+use Rattle.stock.specs.Stock.{entryAt}
+use Rattle.ledger.specs.Stock.{broughtAt, stockAt}
+use Rattle.ledger.specs.Refusal.{refusalOf}
+use Rattle.ledger.specs.declared.book.Ledger.{Ledger}
+use Rattle.run.specs.declared.period.Decayed.{Decayed}
+use Rattle.run.specs.declared.period.Period.{Period}
+
+-- R becomes H × D / 10^9 rounded down.
+unfoldable pub leftOf : (H D : ℕ) → ℕ
+leftOf H D = H * D / 10 ^ 9
+
+-- What an accepted record makes of the ledger l at place t:
+module _ (l : Ledger) (bytes : List ℕ) (t : ℕ) where
+  -- the deposit is added to T;
+  unfoldable pub newBrought : ℕ
+  newBrought = broughtAt l t + depositOf bytes t
+
+  -- H = R + deposit: new waste decays in its own period;
+  unfoldable pub held : ℕ
+  held = stockAt l t + depositOf bytes t
+
+  unfoldable pub newStock : ℕ
+  newStock = leftOf held (entryAt (kindOf bytes) (climateOf bytes) t)
+
+  -- release G = H − the new R.
+  unfoldable pub release : ℕ
+  release = held - newStock
+
+-- What place t then has.
+unfoldable pub decayedAt : Ledger → List ℕ → (t : ℕ) → Decayed
+decayedAt l bytes t = record { brought = newBrought l bytes t; stock = newStock l bytes t; release = release l bytes t }
+
+-- x0 = the eight releases added.
+unfoldable pub x0Of : Ledger → List ℕ → ℕ
+x0Of l bytes = sumOf (release l bytes) 8
+
+-- What all of them have.
+unfoldable pub periodOfAll : Ledger → List ℕ → Period
+periodOfAll l bytes = record { brought = eight (newBrought l bytes); stock = eight (newStock l bytes); x0 = x0Of l bytes }
+
+-- n grows by one, kind and climate become the record's.
+unfoldable pub after : Ledger → List ℕ → Ledger
+after l bytes =
+    record {
+      n = l .n + 1;
+      kind = kindOf bytes;
+      climate = climateOf bytes;
+      brought = eight (newBrought l bytes);
+      stock = eight (newStock l bytes);
+    }
+
+-- Table entries that are a record's, if the ledger accepts it.
+abbrev pub Fit : (entries : List ℕ) → Ledger → List ℕ → Type 0
+Fit entries l bytes = refusalOf l bytes 48 ≡ 0 → entries ≡ eight (entryAt (kindOf bytes) (climateOf bytes))

@@ -1,0 +1,64 @@
+// The whole-run entry: 'One step' of document 01, its last paragraph.
+ghost use mathlib.Core.Path.{_≡_};
+ghost use Prim.Native.Nat.{_-_, _≤_};
+ghost use lib.ListN.{length, take, drop};
+ghost use Rattle.run.specs.Period.{Fit};
+ghost use Rattle.run.specs.History.{recordsOf, runOf, outcomeOf, outOf};
+use crate::answer::Outcome;
+use crate::entry::offer;
+use ledger::Ledger;
+
+// Answers the table entries of a run: those of its first record, which every later accepted record shares.
+fn run_entries(ledger: Ledger, records: &[u8]) -> [u32; 8]
+    ensures { λ r. ⌜ Fit r ledger (take 48 (now (records .entry))) ⌝ }
+{
+    if ledger.n > 0 {
+        return stock::entries(ledger.kind, ledger.climate);
+    }
+    stock::entries(record::kind(records), record::climate(records))
+}
+
+// Answers where the record that starts at a place ends; bytes left over at the end of the file make a short one.
+fn record_end(records: &[u8], at: usize) -> usize
+    requires { ⌜ at ≤ length (now records) ⌝ }
+    ensures { λ r. ⌜ (at ≤ r) × (r ≤ length (now (records .entry))) ⌝ }
+    ensures { λ r. ⌜ take (r - at) (drop at (now (records .entry))) ≡ take 48 (drop at (now (records .entry))) ⌝ }
+{
+    if records.len() - at < Ledger::BYTES {
+        return records.len();
+    }
+    at + Ledger::BYTES
+}
+
+// Takes the records of a file one after another, writes the output record of each accepted one behind the last, and stops at
+// the first that is refused; bytes left over that make no record are refused with 1.
+pub fn run(ledger: Ledger, records: &[u8], out: &mut [u8]) -> Outcome
+    ensures { λ r. ⌜ r ≡ outcomeOf (runOf ledger (recordsOf (now (records .entry))) (length (now (out .entry)))) ⌝ }
+    ensures { λ _. ⌜ now (out .exit) ≡ outOf (runOf ledger (recordsOf (now (records .entry))) (length (now (out .entry)))) (now (out .entry)) ⌝ }
+{
+    let good = ledger.is_sound();
+    let entries = run_entries(ledger, records);
+    let mut ledger = ledger;
+    let mut at: usize = 0;
+    let mut accepted: u64 = 0;
+    while at < records.len() {
+        let end = record_end(records, at);
+        let entered = offer(ledger, good, entries, &records[at..end], &mut out[at..]);
+        if entered.refusal != 0 {
+            return Outcome {
+                ledger,
+                accepted,
+                refusal: entered.refusal,
+            };
+        }
+        let next = entered.ledger;
+        ledger = next;
+        accepted += 1;
+        at += Ledger::BYTES;
+    }
+    Outcome {
+        ledger,
+        accepted,
+        refusal: 0,
+    }
+}
