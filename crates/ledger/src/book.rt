@@ -97,7 +97,7 @@ impl Ledger {
         if record::period(bytes) as u64 != self.n as u64 + 1 {
             return 6;
         }
-        if (self.n > 0) & !self.is_continued(bytes) {
+        if !self.is_continued(bytes) & (self.n > 0) {
             return 7;
         }
         if !Factors::of(bytes).is_in_range() {

@@ -2,13 +2,14 @@
 use mathlib.Core.Path.{_≡_, refl, sym, ap, _∙_}
 use mathlib.Core.Bool.{Bool}
 use mathlib.Core.List.{List, [], _∷_, _++_, append-assoc, append-nil}
-use Prim.Native.Nat.{ℕ, _+_, _-_, _*_, _≤_, _<_}
+use Prim.Native.Nat.{ℕ, _+_, _-_, _*_, _/_, _≤_, _<_}
 use native.Mathlib.Omega.{arith}
+use borrow.Author.Tests.{ne-eqb}
 use lib.ListN.{length, take, drop, length-drop, length-append, length-take, take-append-drop, drop-of-length-le}
 use lib.Seq.{length-take-le, take-at, drop-at, drop-drop, take-all}
 use Rattle.record.specs.Fields.{recordBytes}
 use Rattle.run.specs.Period.{after, Fit}
-use Rattle.ledger.specs.Refusal.{sound, refusalOf}
+use Rattle.ledger.specs.Refusal.{sound, faultsOf, refusalOf}
 use Rattle.run.specs.Take.{acceptedOf, outputRecord, writtenOf}
 use Rattle.run.specs.History.{Turn, outputs, recordsOf, runOf, outcomeOf, outOf}
 use Rattle.ledger.specs.declared.book.Ledger.{Ledger}
@@ -17,32 +18,30 @@ use Rattle.run.proofs.After.{accepted-sound}
 use Rattle.run.proofs.Take.{output-length, refused-writes-nothing}
 use Rattle.run.proofs.History.{no-records, first-record, stopped, onFrom, acceptedTurn, run-goes-on, run-stops, run-ends, on-from, outputs-length, outputs-join}
 
-pub record MidRun (l₀ : Ledger) (file out₀ entries : List ℕ) (good : Bool) (out : List ℕ) (l : Ledger) (at count : ℕ) : Type 0 where
+pub record MidRun (l₀ : Ledger) (file out₀ entries : List ℕ) (good : Bool) (out : List ℕ) (l : Ledger) (at : ℕ) : Type 0 where
   pub flag : good ≡ sound l
   pub fit : Fit entries l (take 48 (drop at file))
-  pub steps : at ≡ 48 * count
   pub in-file : at ≤ length file
   pub in-out : at ≤ length out
   pub as-long : length out ≡ length out₀
   pub untouched : drop at out ≡ drop at out₀
   pub done : List Turn
-  pub counted : length done ≡ count
+  pub counted : at ≡ recordBytes * length done
   pub put-out : take at out ≡ outputs done
   pub so-far : runOf l₀ (recordsOf file) (length out₀) ≡ onFrom done (runOf l (recordsOf (drop at file)) (length out - at))
 
-pub run-starts : (l : Ledger) (file out entries : List ℕ) (good : Bool) → good ≡ sound l → Fit entries l (take 48 file) → MidRun l file out entries good out l 0 0
+pub run-starts : (l : Ledger) (file out entries : List ℕ) (good : Bool) → good ≡ sound l → Fit entries l (take 48 file) → MidRun l file out entries good out l 0
 unfolding outputs
 run-starts l file out entries good flag fit =
     record {
       flag = flag;
       fit = fit;
-      steps = omega arith;
       in-file = omega arith;
       in-out = omega arith;
       as-long = refl;
       untouched = refl;
       done = [];
-      counted = refl;
+      counted = omega arith;
       put-out = refl;
       so-far = ap (λ (k : ℕ). runOf l (recordsOf file) k) (omega arith);
     }
@@ -76,8 +75,8 @@ module _ (l : Ledger) (bytes out : List ℕ) (at : ℕ) {ys : List ℕ} (e : ys 
       rw (e, lent out at .1, append-nil, refused-writes-nothing l bytes (take (length out - at) (drop at out)) (rw (lent-length out at) some), lent out at .0)
       (take-append-drop at out)
 
-module _ {l₀ : Ledger} {file out₀ entries : List ℕ} {good : Bool} {out : List ℕ} {l : Ledger} {at count : ℕ}
-    (h : MidRun l₀ file out₀ entries good out l at count) where
+module _ {l₀ : Ledger} {file out₀ entries : List ℕ} {good : Bool} {out : List ℕ} {l : Ledger} {at : ℕ}
+    (h : MidRun l₀ file out₀ entries good out l at) where
   abbrev pub here : List ℕ
   here = take 48 (drop at file)
 
@@ -87,7 +86,7 @@ module _ {l₀ : Ledger} {file out₀ entries : List ℕ} {good : Bool} {out : L
   -- what the run then answers, and what it leaves in the output
   abbrev pub Ends : ℕ → Type 0
   Ends q =
-      (record { ledger = l; accepted = count; refusal = q } ≡ outcomeOf (runOf l₀ (recordsOf file) (length out₀)))
+      (record { ledger = l; accepted = at / 48; refusal = q } ≡ outcomeOf (runOf l₀ (recordsOf file) (length out₀)))
       × (out ≡ outOf (runOf l₀ (recordsOf file) (length out₀)) out₀)
 
   -- where the run stops
@@ -95,8 +94,8 @@ module _ {l₀ : Ledger} {file out₀ entries : List ℕ} {good : Bool} {out : L
   unfolding outcomeOf outOf
   ends q e =
       let all : runOf l₀ (recordsOf file) (length out₀) ≡ onFrom (h .done) (stopped l q) = h .so-far ∙ ap (onFrom (h .done)) e in
-      let n : length (h .done ++ []) ≡ count = rw append-nil (h .counted) in
-      let long : length (outputs (h .done)) ≡ at = outputs-length (h .done) ∙ omega (arith, h .counted, h .steps) in (
+      let n : length (h .done ++ []) ≡ at / 48 = rw append-nil (omega (arith, h .counted)) in
+      let long : length (outputs (h .done)) ≡ at = outputs-length (h .done) ∙ omega (arith, h .counted) in (
         (λ i. record { ledger = l; accepted = sym n i; refusal = q }) ∙ ap outcomeOf (sym all),
         rw (all, append-nil, long, ← h .untouched, ← h .put-out) (sym (take-append-drop at out)),
       )
@@ -110,10 +109,17 @@ module _ {l₀ : Ledger} {file out₀ entries : List ℕ} {good : Bool} {out : L
       (rw (first-record (drop at file) (simp length-drop (omega arith)))
       (run-stops l here (recordsOf (drop 48 (drop at file))) room q e ne))
 
+  -- bytes left over that make no record
+  pub at-short : at < length file → length file - at < recordBytes → Ends 1
+  unfolding refusalOf faultsOf
+  at-short left short =
+      at-refusal 1 left
+      (simp (ne-eqb (length here) recordBytes (λ e. omega (arith, length-take 48 (drop at file), length-drop at file)))) (omega arith)
+
   -- an accepted record
   pub turn-on : (out′ : List ℕ) → at < length file → refusalOf l here room ≡ 0
       → out′ ≡ take at out ++ (outputRecord (acceptedOf l here) ++ drop 48 (drop at out))
-      → MidRun l₀ file out₀ entries good out′ (acceptedOf l here .ledger) (at + 48) (count + 1)
+      → MidRun l₀ file out₀ entries good out′ (acceptedOf l here .ledger) (at + 48)
   unfolding outputs
   turn-on out′ left ok e =
       let o : List ℕ = outputRecord (acceptedOf l here) in
@@ -130,13 +136,12 @@ module _ {l₀ : Ledger} {file out₀ entries : List ℕ} {good : Bool} {out : L
       record {
         flag = h .flag ∙ was-sound l here room ok ∙ sym (accepted-sound l here a);
         fit = next-fit l here (take 48 (drop (at + 48) file)) entries (room-alike l here 48 room (omega arith) enough ∙ ok) (h .fit);
-        steps = omega (arith, h .steps);
         in-file = omega (arith, a .size, length-take 48 (drop at file), length-drop at file);
         in-out = omega arith;
         as-long = same ∙ h .as-long;
         untouched = ap (drop (at + 48)) e′ ∙ drop-at (w ++ o) (drop 48 (drop at out)) (at + 48) m ∙ ap (drop 48) (h .untouched) ∙ drop-drop 48 at out₀;
         done = h .done ++ (turn ∷ []);
-        counted = length-append (h .done) (turn ∷ []) ∙ omega (arith, h .counted);
+        counted = omega (arith, h .counted, length-append (h .done) (turn ∷ []));
         put-out = ap (take (at + 48)) e′ ∙ take-at (w ++ o) (drop 48 (drop at out)) (at + 48) m
             ∙ rw (h .put-out, outputs-join (h .done) (turn ∷ []), append-nil);
         so-far =

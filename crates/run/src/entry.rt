@@ -54,7 +54,13 @@ fn enter(ledger: Ledger, entries: [u32; 8], bytes: &[u8], out: &mut [u8]) -> Led
 }
 
 // Takes a record of a run: `good` says whether the ledger is sound, and the entries are those of the record, if it is accepted.
-pub(crate) fn offer(ledger: Ledger, good: bool, entries: [u32; 8], bytes: &[u8], out: &mut [u8]) -> Entered
+pub(crate) fn offer(
+    ledger: Ledger,
+    good: bool,
+    entries: [u32; 8],
+    bytes: &[u8],
+    out: &mut [u8],
+) -> Entered
     requires { ⌜ (good ≡ sound ledger) × Fit entries ledger (now bytes) ⌝ }
     ensures { λ r. ⌜ (r .ledger ≡ takeOf ledger (now (bytes .entry)) (length (now (out .entry))) .ledger)
         × (r .refusal ≡ refusalOf ledger (now (bytes .entry)) (length (now (out .entry)))) ⌝ }

@@ -1,7 +1,7 @@
 // The whole-run entry: 'One step' of document 01, its last paragraph.
 ghost use mathlib.Core.Path.{_≡_};
-ghost use Prim.Native.Nat.{_-_, _≤_};
-ghost use lib.ListN.{length, take, drop};
+ghost use Prim.Native.Nat.{_/_};
+ghost use lib.ListN.{length, take};
 ghost use Rattle.run.specs.Period.{Fit};
 ghost use Rattle.run.specs.History.{recordsOf, runOf, outcomeOf, outOf};
 use crate::answer::Outcome;
@@ -18,16 +18,15 @@ fn run_entries(ledger: Ledger, records: &[u8]) -> [u32; 8]
     stock::entries(record::kind(records), record::climate(records))
 }
 
-// Answers where the record that starts at a place ends; bytes left over at the end of the file make a short one.
-fn record_end(records: &[u8], at: usize) -> usize
-    requires { ⌜ at ≤ length (now records) ⌝ }
-    ensures { λ r. ⌜ (at ≤ r) × (r ≤ length (now (records .entry))) ⌝ }
-    ensures { λ r. ⌜ take (r - at) (drop at (now (records .entry))) ≡ take 48 (drop at (now (records .entry))) ⌝ }
+// Answers how a run ends at a place, with every record before it accepted.
+fn ended(ledger: Ledger, at: usize, refusal: u8) -> Outcome
+    ensures { λ r. ⌜ r ≡ record { ledger = ledger; accepted = at / 48; refusal = refusal } ⌝ }
 {
-    if records.len() - at < Ledger::BYTES {
-        return records.len();
+    Outcome {
+        ledger,
+        accepted: (at / Ledger::BYTES) as u64,
+        refusal,
     }
-    at + Ledger::BYTES
 }
 
 // Takes the records of a file one after another, writes the output record of each accepted one behind the last, and stops at
@@ -40,25 +39,18 @@ pub fn run(ledger: Ledger, records: &[u8], out: &mut [u8]) -> Outcome
     let entries = run_entries(ledger, records);
     let mut ledger = ledger;
     let mut at: usize = 0;
-    let mut accepted: u64 = 0;
     while at < records.len() {
-        let end = record_end(records, at);
-        let entered = offer(ledger, good, entries, &records[at..end], &mut out[at..]);
+        if records.len() - at < Ledger::BYTES {
+            return ended(ledger, at, 1);
+        }
+        let bytes = &records[at..at + Ledger::BYTES];
+        let entered = offer(ledger, good, entries, bytes, &mut out[at..]);
         if entered.refusal != 0 {
-            return Outcome {
-                ledger,
-                accepted,
-                refusal: entered.refusal,
-            };
+            return ended(ledger, at, entered.refusal);
         }
         let next = entered.ledger;
         ledger = next;
-        accepted += 1;
         at += Ledger::BYTES;
     }
-    Outcome {
-        ledger,
-        accepted,
-        refusal: 0,
-    }
+    ended(ledger, at, 0)
 }

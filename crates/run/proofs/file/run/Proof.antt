@@ -1,24 +1,23 @@
 -- `MidRun` holds at the head of the loop; each way out and each turn is a law of it.
-use mathlib.Core.Path.{_≡_, sym, ap, _∙_}
+use mathlib.Core.Path.{_≡_, sym, _∙_}
 use mathlib.Core.List.{List}
-use Prim.Native.Nat.{ℕ, _-_, _≤_, _<_}
+use Prim.Native.Nat.{ℕ, _-_}
+use native.Mathlib.Nat.{add-sub-cancel-left}
 use native.Mathlib.Omega.{arith}
 use borrow.Author.Needs.{needs}
-use denote.Ref.{now}
 use lib.ListN.{length, take, drop}
 use Rattle.ledger.specs.Refusal.{refusalOf}
 use Rattle.run.specs.Take.{takeOf, writtenOf}
-use Rattle.run.specs.declared.answer.Answer.{Answer}
 use Rattle.run.proofs.Take.{taken}
-use Rattle.run.proofs.MidRun.{MidRun, run-starts, lent-length, back-taken, back-refused, at-end, at-refusal, turn-on}
+use Rattle.run.proofs.MidRun.{MidRun, run-starts, lent-length, back-taken, back-refused, at-end, at-short, at-refusal, turn-on}
 use Rattle.run.proofs.file.run.Statement.{statement}
 use Rattle.run.proofs.file.run.Tie as tie
 
 abbrev Inv-loop : tie.InvT-loop
-Inv-loop file out₀ good entries l₀ at₀ count₀ out l at count = MidRun l₀ file out₀ entries good out l at count
+Inv-loop file out₀ good entries l₀ at₀ out l at = MidRun l₀ file out₀ entries good out l at
 
 abbrev μ-loop : tie.MeasureT-loop
-μ-loop file out₀ good entries l₀ at₀ count₀ out l at count = length file - at
+μ-loop file out₀ good entries l₀ at₀ out l at = length file - at
 
 abbrev Head : Type 0
 Head = tie.At-loop Inv-loop μ-loop
@@ -35,33 +34,36 @@ Offered = tie.After-offer Inv-loop μ-loop
 
 -- the record that is offered is that one, and the room is that room
 answered : (c : Offered) → let h = c .before .before .before .before .before in
-    (c .offer .result .ledger ≡ takeOf (h .loop .ledger) (bytesAt h) (roomAt h) .ledger) × (c .offer .result .refusal ≡ refusalOf (h .loop .ledger) (bytesAt h) (roomAt h))
+    (c .offer .result .ledger ≡ takeOf (h .loop .ledger) (bytesAt h) (roomAt h) .ledger)
+    × (c .offer .result .refusal ≡ refusalOf (h .loop .ledger) (bytesAt h) (roomAt h))
 answered c =
     let h = c .before .before .before .before .before in
-    rw (c .before .before .before .record-end .ensures .1, lent-length (h .loop .out) (h .loop .at)) at (c .offer .ensures .0)
+    rw (add-sub-cancel-left (h .loop .at) 48, lent-length (h .loop .out) (h .loop .at)) at (c .offer .ensures .0)
 
 written : (c : Offered) → let h = c .before .before .before .before .before in
     c .offer .last .1 .1 .1 .1 .0 ≡ writtenOf (h .loop .ledger) (bytesAt h) (take (roomAt h) (drop (h .loop .at) (h .loop .out)))
-written c = rw (c .before .before .before .record-end .ensures .1) at (c .offer .ensures .1)
+written c = rw (add-sub-cancel-left (c .before .before .before .before .before .loop .at) 48) at (c .offer .ensures .1)
 
 offer-requires : tie.Need-offer-requires Inv-loop μ-loop
 offer-requires c κs =
     let h = c .before .before .before .before in
-    (h .loop .inv .flag, rw (c .before .before .record-end .ensures .1) (h .loop .inv .fit))
+    (h .loop .inv .flag, rw (add-sub-cancel-left (h .loop .at) 48) (h .loop .inv .fit))
 
-returns : tie.Need-returns Inv-loop μ-loop
-returns c =
-    let o = c .before .before .before .before in
+returns-2 : tie.Need-returns-2 Inv-loop μ-loop
+returns-2 c =
+    let o = c .before .before .before .before .before in
     let h = o .before .before .before .before .before in
     let is = answered o .1 in
-    rw (back-refused (h .loop .ledger) (bytesAt h) (h .loop .out) (h .loop .at) (written o) (λ z. c .if1 .taken (is ∙ z)))
-    (at-refusal (h .loop .inv) (o .offer .result .refusal) (o .before .before .before .before .loop-test .taken) (sym is) (c .if1 .taken))
+    let end = at-refusal (h .loop .inv) (o .offer .result .refusal) (o .before .before .before .before .loop-test .taken) (sym is) (c .before .if2 .taken) in (
+      c .ended2 .ensures ∙ end .0,
+      back-refused (h .loop .ledger) (bytesAt h) (h .loop .out) (h .loop .at) (written o) (λ z. c .before .if2 .taken (is ∙ z)) ∙ end .1,
+    )
 
 loop-again : tie.Need-loop-again Inv-loop μ-loop
 loop-again c =
     let o = c .before .before .before .before .before in
     let h = o .before .before .before .before .before in
-    let ok : refusalOf (h .loop .ledger) (bytesAt h) (roomAt h) ≡ 0 = sym (answered o .1) ∙ c .before .if1 .left in
+    let ok : refusalOf (h .loop .ledger) (bytesAt h) (roomAt h) ≡ 0 = sym (answered o .1) ∙ c .before .if2 .left in
     rw (answered o .0, taken (h .loop .ledger) (bytesAt h) (roomAt h) ok)
     (turn-on (h .loop .inv) _ (o .before .before .before .before .loop-test .taken) ok (back-taken (h .loop .ledger) (bytesAt h) (h .loop .out) (h .loop .at) (written o) ok))
 
@@ -70,9 +72,10 @@ run-spec =
     tie.close
     (tie.spec Inv-loop μ-loop (λ c κs. search needs) (λ c κs. search needs)
     (λ c. run-starts _ _ _ _ _ (c .before .is-sound .ensures) (c .run-entries .ensures))
-    (λ c κs. c .before .loop .inv .in-file)
-    (λ c. c .record-end .ensures .0 .0) (λ c. search needs) (λ c. search needs)
-    (λ c. search needs) (λ c. search needs) (λ c. search needs) offer-requires (λ c. search needs) returns
-    (λ c. let h = c .before .before .before .before .before .before .before .before .before .before .loop in omega (arith, h .inv .steps, h .inv .in-file, c .before .before .before .before .before .before .before .before .before .loop-test, c .before .before .before .before .before .before .before .before .before .before .before .before .before .before .before))
-    (λ c. omega (arith, loop-again c .in-file, c .before .before .before .before .before .before .before .before .before .before .before .before .before .before .before))
-    (λ c. omega (arith, c .before .before .before .before .before .before .before .before .before .loop-test)) loop-again (λ c. search needs) (λ c. at-end (c .before .loop .inv) (omega arith)))
+    (λ c. search needs) (λ c κs. search needs) (λ c. search needs)
+    (λ c. let end = at-short (c .before .before .before .loop .inv) (c .before .before .loop-test .taken) (c .before .if1 .taken) in (c .ended .ensures ∙ end .0, end .1))
+    (λ c. search needs) (λ c. search needs) (λ c. search needs) (λ c. search needs)
+    (λ c. search needs) (λ c. search needs) (λ c. search needs) offer-requires (λ c κs. search needs) (λ c. search needs) returns-2
+    (λ c. omega (arith, loop-again c .in-file, c .before .before .before .before .before .before .before .before .before .before .before .before .before .before .before)) (λ c. omega (arith, c .before .before .before .before .before .before .before .before .before .loop-test)) loop-again
+    (λ c κs. search needs) (λ c. search needs)
+    (λ c. let end = at-end (c .before .before .loop .inv) (omega (arith, c .before .loop-test)) in (c .ended3 .ensures ∙ end .0, end .1)))
