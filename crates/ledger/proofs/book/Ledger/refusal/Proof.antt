@@ -1,5 +1,5 @@
 -- The faults, tested in order: `past-k` says that fault k and those before it are not there.
-use mathlib.Core.Path.{_≡_, refl, _∙_}
+use mathlib.Core.Path.{_≡_}
 use mathlib.Core.Bool.{Bool, true, false, not, _&&_}
 use mathlib.Core.List.{List}
 use Prim.Native.Nat.{ℕ}
@@ -43,22 +43,19 @@ past-6 : (c : tie.Else6) → Past (c .before .before .before .before .before .be
 unfolding faultsOf
 past-6 c = rw (past-5 (c .before .before .before)) (simp (eq-eqb _ _ (rw (c .before .before .period .ensures) at (c .if6 .left))))
 
--- the code looks at the record first and at n last
-turned : (a b : Bool) → (a && b) ≡ (b && a)
-turned true true = refl
-turned true false = refl
-turned false true = refl
-turned false false = refl
+not-not : (b : Bool) {r : Bool} → not (not b) ≡ r → b ≡ r
+not-not true e = e
+not-not false e = e
 
-later : (s : tie.Start) {r : Bool} → (not (continues (s .args .self) (s .args .bytes .now)) && ltb 0 (s .args .self .n)) ≡ r
-    → (ltb 0 (s .args .self .n) && not (continues (s .args .self) (s .args .bytes .now))) ≡ r
-later s e = turned (ltb 0 (s .args .self .n)) (not (continues (s .args .self) (s .args .bytes .now))) ∙ e
+-- fault 7, by what `is_continued` tells
+abbrev another : tie.Start → Bool
+another s = ltb 0 (s .args .self .n) && not (continues (s .args .self) (s .args .bytes .now))
 
-past-7 : (c : tie.Else7) → Past (c .before .before .before .before .before .before .before .before .before .before .before .before .before .before) 8
+past-7 : (c : tie.Else7) → Past (c .before .before .before .before .before .before .before .before .before .before .before .before .before) 8
 unfolding faultsOf
-past-7 c = rw (past-6 (c .before .before .before)) (simp (later (c .before .before .before .before .before .before .before .before .before .before .before .before .before .before) (rw (c .before .before .is-continued .ensures) at (c .if7 .left))))
+past-7 c = rw (past-6 (c .before .before)) (simp (not-not (another (c .before .before .before .before .before .before .before .before .before .before .before .before .before)) (rw (c .before .is-continued .ensures) at (c .if7 .left))))
 
-past-8 : (c : tie.Else8) → Past (c .before .before .before .before .before .before .before .before .before .before .before .before .before .before .before .before .before) 9
+past-8 : (c : tie.Else8) → Past (c .before .before .before .before .before .before .before .before .before .before .before .before .before .before .before .before) 9
 unfolding faultsOf
 past-8 c = rw (past-7 (c .before .before .before)) (simp (rw (c .before .is-in-range .ensures, c .before .before .of .ensures) at (c .if8 .left)))
 
@@ -76,7 +73,7 @@ refusal-spec =
     (λ c κs. search needs) (λ c. search needs) (λ c. search needs) (λ c. search needs)
     (λ c. rw (past-5 (c .before .before .before)) (simp (ne-eqb _ _ (rw (c .before .before .period .ensures) at (c .if6 .taken)))))
     (λ c κs. search needs)
-    (λ c. rw (past-6 (c .before .before .before)) (simp (later (c .before .before .before .before .before .before .before .before .before .before .before .before .before .before) (rw (c .before .before .is-continued .ensures) at (c .if7 .taken)))))
+    (λ c. rw (past-6 (c .before .before)) (simp (not-not (another (c .before .before .before .before .before .before .before .before .before .before .before .before .before)) (rw (c .before .is-continued .ensures) at (c .if7 .taken)))))
     (λ c κs. search needs) (λ c κs. search needs)
     (λ c. rw (past-7 (c .before .before .before)) (simp (rw (c .before .is-in-range .ensures, c .before .before .of .ensures) at (c .if8 .taken))))
     (λ c κs. search needs)
