@@ -1,7 +1,7 @@
 // The ledger, from value to value.
-ghost use mathlib.Core.Bool.{not, cond, _&&_};
+ghost use mathlib.Core.Bool.{cond, _&&_};
 ghost use mathlib.Core.Path.{_≡_};
-ghost use lib.Dec.{eqb, ltb};
+ghost use lib.Dec.{eqb};
 ghost use Rattle.numbers.specs.Fault.{firstOf};
 ghost use Rattle.decay.specs.Series.{isKind};
 ghost use Rattle.waste.specs.Waste.{isClimate};
@@ -67,13 +67,10 @@ impl Ledger {
         self.is_coded() & stock::are_within(self.n, brought, left)
     }
 
-    // Tells whether a record is the first, or has the ledger's kind and climate.
+    // Tells whether a record has the ledger's kind and climate.
     fn is_continued(self, bytes: &[u8]) -> bool
-        ensures { λ r. ⌜ r ≡ not (ltb 0 (self .n) && not (continues self (now (bytes .entry)))) ⌝ }
+        ensures { λ r. ⌜ r ≡ continues self (now (bytes .entry)) ⌝ }
     {
-        if self.n == 0 {
-            return true;
-        }
         (record::kind(bytes) == self.kind) & (record::climate(bytes) == self.climate)
     }
 
@@ -100,7 +97,7 @@ impl Ledger {
         if record::period(bytes) as u64 != self.n as u64 + 1 {
             return 6;
         }
-        if !self.is_continued(bytes) {
+        if (self.n > 0) & !self.is_continued(bytes) {
             return 7;
         }
         if !Factors::of(bytes).is_in_range() {

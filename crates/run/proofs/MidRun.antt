@@ -2,7 +2,7 @@
 use mathlib.Core.Path.{_≡_, refl, sym, ap, _∙_}
 use mathlib.Core.Bool.{Bool}
 use mathlib.Core.List.{List, [], _∷_, _++_, append-assoc, append-nil}
-use Prim.Native.Nat.{ℕ, _+_, _-_, _*_, _/_, _≤_, _<_}
+use Prim.Native.Nat.{ℕ, _+_, _-_, _*_, _≤_, _<_}
 use native.Mathlib.Omega.{arith}
 use borrow.Author.Tests.{ne-eqb}
 use lib.ListN.{length, take, drop, length-drop, length-append, length-take, take-append-drop, drop-of-length-le}
@@ -27,6 +27,7 @@ pub record MidRun (l₀ : Ledger) (file out₀ entries : List ℕ) (good : Bool)
   pub untouched : drop at out ≡ drop at out₀
   pub done : List Turn
   pub counted : at ≡ recordBytes * length done
+  pub grown : l .n ≡ l₀ .n + length done
   pub put-out : take at out ≡ outputs done
   pub so-far : runOf l₀ (recordsOf file) (length out₀) ≡ onFrom done (runOf l (recordsOf (drop at file)) (length out - at))
 
@@ -42,6 +43,7 @@ run-starts l file out entries good flag fit =
       untouched = refl;
       done = [];
       counted = omega arith;
+      grown = omega arith;
       put-out = refl;
       so-far = ap (λ (k : ℕ). runOf l (recordsOf file) k) (omega arith);
     }
@@ -86,7 +88,7 @@ module _ {l₀ : Ledger} {file out₀ entries : List ℕ} {good : Bool} {out : L
   -- what the run then answers, and what it leaves in the output
   abbrev pub Ends : ℕ → Type 0
   Ends q =
-      (record { ledger = l; accepted = at / 48; refusal = q } ≡ outcomeOf (runOf l₀ (recordsOf file) (length out₀)))
+      (record { ledger = l; accepted = l .n - l₀ .n; refusal = q } ≡ outcomeOf (runOf l₀ (recordsOf file) (length out₀)))
       × (out ≡ outOf (runOf l₀ (recordsOf file) (length out₀)) out₀)
 
   -- where the run stops
@@ -94,7 +96,7 @@ module _ {l₀ : Ledger} {file out₀ entries : List ℕ} {good : Bool} {out : L
   unfolding outcomeOf outOf
   ends q e =
       let all : runOf l₀ (recordsOf file) (length out₀) ≡ onFrom (h .done) (stopped l q) = h .so-far ∙ ap (onFrom (h .done)) e in
-      let n : length (h .done ++ []) ≡ at / 48 = rw append-nil (omega (arith, h .counted)) in
+      let n : length (h .done ++ []) ≡ l .n - l₀ .n = rw append-nil (omega (arith, h .grown)) in
       let long : length (outputs (h .done)) ≡ at = outputs-length (h .done) ∙ omega (arith, h .counted) in (
         (λ i. record { ledger = l; accepted = sym n i; refusal = q }) ∙ ap outcomeOf (sym all),
         rw (all, append-nil, long, ← h .untouched, ← h .put-out) (sym (take-append-drop at out)),
@@ -120,7 +122,7 @@ module _ {l₀ : Ledger} {file out₀ entries : List ℕ} {good : Bool} {out : L
   pub turn-on : (out′ : List ℕ) → at < length file → refusalOf l here room ≡ 0
       → out′ ≡ take at out ++ (outputRecord (acceptedOf l here) ++ drop 48 (drop at out))
       → MidRun l₀ file out₀ entries good out′ (acceptedOf l here .ledger) (at + 48)
-  unfolding outputs
+  unfolding outputs acceptedOf after
   turn-on out′ left ok e =
       let o : List ℕ = outputRecord (acceptedOf l here) in
       let w : List ℕ = take at out in
@@ -142,6 +144,7 @@ module _ {l₀ : Ledger} {file out₀ entries : List ℕ} {good : Bool} {out : L
         untouched = ap (drop (at + 48)) e′ ∙ drop-at (w ++ o) (drop 48 (drop at out)) (at + 48) m ∙ ap (drop 48) (h .untouched) ∙ drop-drop 48 at out₀;
         done = h .done ++ (turn ∷ []);
         counted = omega (arith, h .counted, length-append (h .done) (turn ∷ []));
+        grown = omega (arith, h .grown, length-append (h .done) (turn ∷ []));
         put-out = ap (take (at + 48)) e′ ∙ take-at (w ++ o) (drop 48 (drop at out)) (at + 48) m
             ∙ rw (h .put-out, outputs-join (h .done) (turn ∷ []), append-nil);
         so-far =

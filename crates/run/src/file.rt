@@ -1,6 +1,6 @@
 // The whole-run entry: 'One step' of document 01, its last paragraph.
 ghost use mathlib.Core.Path.{_≡_};
-ghost use Prim.Native.Nat.{_/_};
+ghost use Prim.Native.Nat.{_-_, _≤_};
 ghost use lib.ListN.{length, take};
 ghost use Rattle.run.specs.Period.{Fit};
 ghost use Rattle.run.specs.History.{recordsOf, runOf, outcomeOf, outOf};
@@ -18,13 +18,14 @@ fn run_entries(ledger: Ledger, records: &[u8]) -> [u32; 8]
     stock::entries(record::kind(records), record::climate(records))
 }
 
-// Answers how a run ends at a place, with every record before it accepted.
-fn ended(ledger: Ledger, at: usize, refusal: u8) -> Outcome
-    ensures { λ r. ⌜ r ≡ record { ledger = ledger; accepted = at / 48; refusal = refusal } ⌝ }
+// Answers how a run ends whose ledger had so many records at first: what n has grown by is the number of accepted ones.
+fn ended(first: u16, ledger: Ledger, refusal: u8) -> Outcome
+    requires { ⌜ first ≤ ledger .n ⌝ }
+    ensures { λ r. ⌜ r ≡ record { ledger = ledger; accepted = ledger .n - first; refusal = refusal } ⌝ }
 {
     Outcome {
         ledger,
-        accepted: (at / Ledger::BYTES) as u64,
+        accepted: (ledger.n - first) as u64,
         refusal,
     }
 }
@@ -37,20 +38,21 @@ pub fn run(ledger: Ledger, records: &[u8], out: &mut [u8]) -> Outcome
 {
     let good = ledger.is_sound();
     let entries = run_entries(ledger, records);
+    let first = ledger.n;
     let mut ledger = ledger;
     let mut at: usize = 0;
     while at < records.len() {
         if records.len() - at < Ledger::BYTES {
-            return ended(ledger, at, 1);
+            return ended(first, ledger, 1);
         }
         let bytes = &records[at..at + Ledger::BYTES];
         let entered = offer(ledger, good, entries, bytes, &mut out[at..]);
         if entered.refusal != 0 {
-            return ended(ledger, at, entered.refusal);
+            return ended(first, ledger, entered.refusal);
         }
         let next = entered.ledger;
         ledger = next;
         at += Ledger::BYTES;
     }
-    ended(ledger, at, 0)
+    ended(first, ledger, 0)
 }

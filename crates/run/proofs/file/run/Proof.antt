@@ -14,10 +14,10 @@ use Rattle.run.proofs.file.run.Statement.{statement}
 use Rattle.run.proofs.file.run.Tie as tie
 
 abbrev Inv-loop : tie.InvT-loop
-Inv-loop file out₀ good entries l₀ at₀ out l at = MidRun l₀ file out₀ entries good out l at
+Inv-loop file out₀ good entries first l₀ at₀ out l at = MidRun l₀ file out₀ entries good out l at
 
 abbrev μ-loop : tie.MeasureT-loop
-μ-loop file out₀ good entries l₀ at₀ out l at = length file - at
+μ-loop file out₀ good entries first l₀ at₀ out l at = length file - at
 
 abbrev Head : Type 0
 Head = tie.At-loop Inv-loop μ-loop
@@ -72,10 +72,10 @@ run-spec =
     tie.close
     (tie.spec Inv-loop μ-loop (λ c κs. search needs) (λ c κs. search needs)
     (λ c. run-starts _ _ _ _ _ (c .before .is-sound .ensures) (c .run-entries .ensures))
-    (λ c. search needs) (λ c κs. search needs) (λ c. search needs)
+    (λ c. search needs) (λ c κs. omega (arith, c .before .before .loop .inv .grown)) (λ c. search needs)
     (λ c. let end = at-short (c .before .before .before .loop .inv) (c .before .before .loop-test .taken) (c .before .if1 .taken) in (c .ended .ensures ∙ end .0, end .1))
     (λ c. search needs) (λ c. search needs) (λ c. search needs) (λ c. search needs)
-    (λ c. search needs) (λ c. search needs) (λ c. search needs) offer-requires (λ c κs. search needs) (λ c. search needs) returns-2
+    (λ c. search needs) (λ c. search needs) (λ c. search needs) offer-requires (λ c κs. omega (arith, c .before .before .before .before .before .before .before .before .before .loop .inv .grown)) (λ c. search needs) returns-2
     (λ c. omega (arith, loop-again c .in-file, c .before .before .before .before .before .before .before .before .before .before .before .before .before .before .before)) (λ c. omega (arith, c .before .before .before .before .before .before .before .before .before .loop-test)) loop-again
-    (λ c κs. search needs) (λ c. search needs)
+    (λ c κs. omega (arith, c .before .loop .inv .grown)) (λ c. search needs)
     (λ c. let end = at-end (c .before .before .loop .inv) (omega (arith, c .before .loop-test)) in (c .ended3 .ensures ∙ end .0, end .1)))
