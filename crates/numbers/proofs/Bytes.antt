@@ -1,8 +1,8 @@
--- Laws of numbers as bytes, over the count of bytes: wide reads and writes are two narrow ones, and what was written is read back.
+-- Laws of numbers as bytes, over the count of bytes: a wide read is two narrow ones, and what was written is read back.
 use mathlib.Core.Path.{_≡_, refl, ap, _∙_}
 use mathlib.Core.List.{List, [], _∷_, _++_}
-use Prim.Native.Nat.{ℕ, zero, suc, _+_, _*_, _/_, _%_, _^_, _≤_, _<_}
-use native.Mathlib.Nat.{zero-add, add-zero, suc-add, pow-zero, pow-suc, pow-succ', div-div-eq-div-mul, div-one}
+use Prim.Native.Nat.{ℕ, zero, suc, _+_, _-_, _*_, _/_, _%_, _^_, _≤_, _<_}
+use native.Mathlib.Nat.{zero-add, add-zero, suc-add, pow-zero, pow-suc}
 use native.Mathlib.Numerals.{add-one}
 use native.Mathlib.Omega.{arith}
 use lib.ListN.{length, drop, getD, set, length-set, length-append}
@@ -18,10 +18,6 @@ number-join (suc j) k s at =
 pub bytes-length : (k x : ℕ) → length (bytesOf k x) ≡ k
 bytes-length zero x = refl
 bytes-length (suc k) x = ap suc (bytes-length k (x / 256))
-
-pub bytes-join : (j k x : ℕ) → bytesOf (j + k) x ≡ bytesOf j x ++ bytesOf k (x / 256 ^ j)
-bytes-join zero k x = rw (zero-add, pow-zero, div-one)
-bytes-join (suc j) k x = rw (suc-add, pow-succ', ← div-div-eq-div-mul x 256 (256 ^ j), bytes-join j k (x / 256))
 
 pub sets-join : (xs ys l : List ℕ) (at : ℕ) → sets (sets l at xs) (at + length xs) ys ≡ sets l at (xs ++ ys)
 sets-join [] ys l at = rw add-zero
@@ -48,11 +44,13 @@ read-written (suc k) x l at h b =
     = rw add-one (read-written k (x / 256) (set l at (x % 256)) (suc at) room (omega arith)) in
     omega arith
 
--- Two writes of k bytes, one after the other, are one of twice as many.
-pub write-twice : (k x at : ℕ) (l : List ℕ) {m r : List ℕ} → m ≡ sets l at (bytesOf k x) → r ≡ sets m (at + k) (bytesOf k (x / 256 ^ k)) → r ≡ sets l at (bytesOf (k + k) x)
-write-twice k x at l p q =
-    q
-    ∙ rw (p, bytes-join k k x, ← sets-join (bytesOf k x) (bytesOf k (x / 256 ^ k)) l at, bytes-length k x)
+-- The first of some bytes written, the others are those of the number's rest.
+pub byte-more : (count k at x : ℕ) (l : List ℕ) {all : List ℕ} → k < count → sets l (at + k) (bytesOf (count - k) x) ≡ all
+    → sets (set l (at + k) (x % 256)) (at + (k + 1)) (bytesOf (count - (k + 1)) (x / 256)) ≡ all
+byte-more count k at x l h e =
+    let more : count - k ≡ suc (count - (k + 1)) = omega arith in
+    let next : at + (k + 1) ≡ suc (at + k) = omega arith in
+    rw next (rw more at e)
 
 -- Two runs of bytes written from the start on, one after the other: they stand there, and what is past them stays.
 pub front-written : (A B out : List ℕ) {m r : List ℕ} → m ≡ sets out 0 A → r ≡ sets m (length A) B → length (A ++ B) ≤ length out

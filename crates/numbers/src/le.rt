@@ -35,13 +35,24 @@ pub fn read_u64(bytes: &[u8], at: usize) -> u64
     read_u32(bytes, at) + 4294967296 * read_u32(bytes, at + 4)
 }
 
+// Writes the low bytes of a number from a place on, as many as are asked for.
+fn write_low(out: &mut [u8], at: usize, count: usize, x: u64)
+    requires { ⌜ at + count ≤ length (now out) ⌝ }
+    ensures { λ _. ⌜ now (out .exit) ≡ sets (now (out .entry)) at (bytesOf count x) ⌝ }
+{
+    let mut rest = x;
+    for k in 0..count {
+        out[at + k] = (rest % 256) as u8;
+        rest = rest / 256;
+    }
+}
+
 // Writes the low 2 bytes of a number at a place.
 pub fn write_u16(out: &mut [u8], at: usize, x: u64)
     requires { ⌜ at + 2 ≤ length (now out) ⌝ }
     ensures { λ _. ⌜ now (out .exit) ≡ sets (now (out .entry)) at (bytesOf 2 x) ⌝ }
 {
-    out[at] = (x % 256) as u8;
-    out[at + 1] = (x / 256 % 256) as u8;
+    write_low(out, at, 2, x);
 }
 
 // Writes the low 4 bytes of a number at a place.
@@ -49,8 +60,7 @@ pub fn write_u32(out: &mut [u8], at: usize, x: u64)
     requires { ⌜ at + 4 ≤ length (now out) ⌝ }
     ensures { λ _. ⌜ now (out .exit) ≡ sets (now (out .entry)) at (bytesOf 4 x) ⌝ }
 {
-    write_u16(out, at, x);
-    write_u16(out, at + 2, x / 65536);
+    write_low(out, at, 4, x);
 }
 
 // Writes the 8 bytes of a number at a place.
@@ -58,6 +68,5 @@ pub fn write_u64(out: &mut [u8], at: usize, x: u64)
     requires { ⌜ at + 8 ≤ length (now out) ⌝ }
     ensures { λ _. ⌜ now (out .exit) ≡ sets (now (out .entry)) at (bytesOf 8 x) ⌝ }
 {
-    write_u32(out, at, x);
-    write_u32(out, at + 4, x / 4294967296);
+    write_low(out, at, 8, x);
 }

@@ -1,5 +1,6 @@
 // Words of plain text on standard output, for a program whose lines are compared: numbers, the bits of floats, and bytes.
-// A write that fails is passed over.
+// A write that fails is passed over. What stands on standard output no contract can say: each answers nothing.
+ghost use mathlib.Core.Path.{_≡_};
 ghost use Prim.Native.Nat.{_<_};
 use libc::STDOUT_FILENO;
 
@@ -7,7 +8,9 @@ use libc::STDOUT_FILENO;
 const PAGE: usize = 4096;
 
 // Prints a text as it stands.
-pub fn text(of: &[u8]) {
+pub fn text(of: &[u8])
+    ensures { λ r. ⌜ r ≡ tt ⌝ }
+{
     io::write_all(STDOUT_FILENO, of);
 }
 
@@ -18,27 +21,35 @@ fn end(follows: u8) {
 }
 
 // Prints a number in plain decimal and the byte that follows it.
-pub fn number(n: u64, follows: u8) {
+pub fn number(n: u64, follows: u8)
+    ensures { λ r. ⌜ r ≡ tt ⌝ }
+{
     io::print_decimal(STDOUT_FILENO, n);
     end(follows);
 }
 
 // Prints three numbers with a space after each.
-pub fn three(a: u64, b: u64, c: u64) {
+pub fn three(a: u64, b: u64, c: u64)
+    ensures { λ r. ⌜ r ≡ tt ⌝ }
+{
     number(a, b' ');
     number(b, b' ');
     number(c, b' ');
 }
 
 // Prints eight numbers with a space after each.
-pub fn eight(of: [u64; 8]) {
+pub fn eight(of: [u64; 8])
+    ensures { λ r. ⌜ r ≡ tt ⌝ }
+{
     for t in 0..8 {
         number(of[t], b' ');
     }
 }
 
 // Prints the 16 hex digits of a float's bits and the byte that follows them.
-pub fn bits(pattern: u64, follows: u8) {
+pub fn bits(pattern: u64, follows: u8)
+    ensures { λ r. ⌜ r ≡ tt ⌝ }
+{
     io::print_hex(STDOUT_FILENO, pattern, 16);
     end(follows);
 }
@@ -89,7 +100,9 @@ fn flush(page: &[u8], at: usize) {
 }
 
 // Prints bytes as hex, or a dash where there are none, and ends the line.
-pub fn bytes(of: &[u8]) {
+pub fn bytes(of: &[u8])
+    ensures { λ r. ⌜ r ≡ tt ⌝ }
+{
     if of.len() == 0 {
         text(b"-");
     }

@@ -34,12 +34,11 @@ pub fn are_within(n: u16, brought: [u64; 8], left: [u64; 8]) -> bool
     if n > RECORDS {
         return false;
     }
+    let mut all = true;
     for t in 0..8 {
-        if !is_within(n as u64, brought[t], left[t], t) {
-            return false;
-        }
+        all = all & is_within(n as u64, brought[t], left[t], t);
     }
-    true
+    all
 }
 
 // Answers the sum over the eight types, in 64 bits; no sum of a sound ledger is wider.

@@ -44,28 +44,14 @@ pub fn carbon(waste: u8) -> u16
 fn group(waste: u8) -> [u16; CLIMATES + 1]
     ensures { λ r. ⌜ r ≡ 0 ∷ groupOf waste ⌝ }
 {
-    if waste == 1 {
-        return GROUP_B;
+    match waste {
+        1 => GROUP_B,
+        2 | 4 => GROUP_A,
+        3 | 7 => GROUP_D,
+        5 => GROUP_C,
+        8 => ALIKE,
+        _ => NONE,
     }
-    if waste == 2 {
-        return GROUP_A;
-    }
-    if waste == 3 {
-        return GROUP_D;
-    }
-    if waste == 4 {
-        return GROUP_A;
-    }
-    if waste == 5 {
-        return GROUP_C;
-    }
-    if waste == 7 {
-        return GROUP_D;
-    }
-    if waste == 8 {
-        return ALIKE;
-    }
-    NONE
 }
 
 // Tells whether a number is a climate's code.

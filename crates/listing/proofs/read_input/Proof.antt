@@ -1,10 +1,11 @@
 -- What was read lies within the file, and the turns left fall with every turn.
 use mathlib.Core.Path.{_≡_, sym}
-use Prim.Native.Nat.{_≤_}
-use native.Mathlib.Omega.{arith}
+use mathlib.Core.List.{List}
+use Prim.Native.Nat.{ℕ, _≤_}
 use borrow.Author.Needs.{needs}
 use lib.ListN.{length}
 use lib.Seq.{length-take-le}
+use Rattle.io.specs.Counts.{Counts}
 use Rattle.listing.proofs.read_input.Statement.{statement}
 use Rattle.listing.proofs.read_input.Tie as tie
 
@@ -14,23 +15,14 @@ Inv-loop file₀ read₀ turns₀ file read turns = (read ≤ length file) × (l
 abbrev μ-loop : tie.MeasureT-loop
 μ-loop file₀ read₀ turns₀ file read turns = turns
 
-returns : tie.Need-returns Inv-loop μ-loop
-returns c = (search needs, sym (length-take-le _ _ (search needs)))
-
-returns-2 : tie.Need-returns-2 Inv-loop μ-loop
-returns-2 c = (search needs, sym (length-take-le _ _ (search needs)))
-
-returns-3 : tie.Need-returns-3 Inv-loop μ-loop
-returns-3 c = (search needs, sym (length-take-le _ _ (search needs)))
-
-returns-4 : tie.Need-returns-4 Inv-loop μ-loop
-returns-4 c = (search needs, sym (length-take-le _ _ (search needs)))
+within : (n : ℕ) (xs : List ℕ) → n ≤ length xs → Counts n xs
+within n xs h = (h, sym (length-take-le n xs h))
 
 pub read-input-spec : {M : Type 1} → statement M
 read-input-spec =
     tie.close
-    (tie.spec Inv-loop μ-loop (λ c. search needs) (λ c. search needs) (λ c. search needs) (λ c. search needs)
-    (λ c κs. search needs) (λ c κs. search needs) (λ c. search needs) (λ c. search needs) (λ c. search needs)
-    (λ c. search needs) (λ c κs. search needs) (λ c. search needs) (λ c. search needs) (λ c. search needs)
-    (λ c. search needs) returns (λ c. search needs) returns-2 (λ c. search needs) returns-3 (λ c. search needs)
-    returns-4)
+    (tie.spec Inv-loop μ-loop (λ c. search needs) (λ c. search needs) (λ c. search needs) (λ c. search needs) (λ c κs. tt) (λ c κs. tt)
+    (λ c. search needs) (λ c. search needs) (λ c. search needs) (λ c. search needs) (λ c κs. tt) (λ c. search needs)
+    (λ c. search needs) (λ c. search needs) (λ c. search needs) (λ c. within _ _ (search needs)) (λ c. search needs)
+    (λ c. within _ _ (search needs)) (λ c. search needs) (λ c. within _ _ (search needs)) (λ c. search needs)
+    (λ c. within _ _ (search needs)))

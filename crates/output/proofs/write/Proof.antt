@@ -26,4 +26,4 @@ pub write-spec : {M : Type 1} → statement M
 unfolding written
 write-spec =
     tie.close
-    (tie.spec (λ c. simp (lt-leb _ _ (c .if1 .taken))) (λ c κs. search needs) (λ c κs. search needs) (λ c. search needs) returns-2)
+    (tie.spec (λ c. simp (lt-leb _ _ (c .if1 .taken))) (λ c κs. tt) (λ c κs. search needs) (λ c. search needs) returns-2)

@@ -11,4 +11,4 @@ returns c = rw (c .entries .ensures, c .before .rates .ensures)
 pub entries-spec : {M : Type 1} → statement M
 entries-spec =
     tie.close
-    (tie.spec (λ c κs. search needs) (λ c κs. search needs) returns)
+    (tie.spec (λ c κs. tt) (λ c κs. tt) returns)

@@ -20,7 +20,7 @@ returns c = rw (c .carbon .ensures)
 pub is-within-spec : {M : Type 1} → statement M
 is-within-spec =
     tie.close
-    (tie.spec (λ c. search needs) (λ c. search needs) (λ c. search needs) (λ c κs. search needs) (λ c. search needs)
+    (tie.spec (λ c. search needs) (λ c. search needs) (λ c. search needs) (λ c κs. tt) (λ c. search needs)
     (λ c. let a = c .before .args in omega (arith, most (a .n) (a .t) (c .carbon .result) (search needs) (c .carbon .ensures)))
     (λ c. let a = c .before .args in omega (arith, most (a .n) (a .t) (c .carbon .result) (search needs) (c .carbon .ensures)))
     returns)

@@ -1,21 +1,23 @@
 -- Each type's group is the one of its number; whatever is left has none.
+use mathlib.Core.Logic.{inl, inr}
 use Rattle.waste.proofs.Laws.{no-group}
 use Rattle.waste.proofs.group.Statement.{statement}
 use Rattle.waste.proofs.group.Tie as tie
 
-returns-8 : tie.Need-returns-8
-returns-8 c =
-    rw (no-group (c .before .before .before .before .before .before .before .args .waste)
-    (c .before .before .before .before .before .before .if1 .left)
-    (c .before .before .before .before .before .if2 .left)
-    (c .before .before .before .before .if3 .left)
-    (c .before .before .before .if4 .left)
-    (c .before .before .if5 .left)
-    (c .before .if6 .left)
-    (c .if7 .left))
+returns-2 : tie.Need-returns-2
+returns-2 c = elim (c .match .keys2) [ inl e ↦ rw e | inr e ↦ rw e ]
+
+returns-3 : tie.Need-returns-3
+returns-3 c = elim (c .match .keys3) [ inl e ↦ rw e | inr e ↦ rw e ]
+
+returns-6 : tie.Need-returns-6
+returns-6 c =
+    let no = c .match .rest in
+    let not-a = no .0 .0 .0 .1 in
+    let not-d = no .0 .0 .1 in
+    rw (no-group (c .before .args .waste) (no .0 .0 .0 .0 .1) (λ e. not-a (inl e)) (λ e. not-d (inl e)) (λ e. not-a (inr e)) (no .0 .1) (λ e. not-d (inr e)) (no .1))
 
 pub group-spec : {M : Type 1} → statement M
 group-spec =
     tie.close
-    (tie.spec (λ c. rw (c .if1 .taken)) (λ c. rw (c .if2 .taken)) (λ c. rw (c .if3 .taken)) (λ c. rw (c .if4 .taken))
-    (λ c. rw (c .if5 .taken)) (λ c. rw (c .if6 .taken)) (λ c. rw (c .if7 .taken)) returns-8)
+    (tie.spec (λ c. rw (c .match .keys1)) returns-2 returns-3 (λ c. rw (c .match .keys4)) (λ c. rw (c .match .keys5)) returns-6)

@@ -25,4 +25,4 @@ returns-2 c = ap (λ (l : List ℕ). getD l (c .before .before .args .climate) 0
 pub rate-spec : {M : Type 1} → statement M
 rate-spec =
     tie.close
-    (tie.spec (λ c κs. search needs) returns (λ c. search needs) (λ c. search needs) returns-2)
+    (tie.spec (λ c κs. tt) returns (λ c. search needs) (λ c. search needs) returns-2)

@@ -29,5 +29,5 @@ weigh-spec =
     tie.close
     (tie.spec (λ c. search needs) (λ c. search needs) (λ c. search needs)
     (λ c. asked (c .before) nan (sym (differs-from-itself (kg (c .before)) (passes _ (c .if1 .taken)))))
-    (λ c. no-nan (kg (c .before)) (c .if1 .left)) (λ c κs. search needs)
+    (λ c. no-nan (kg (c .before)) (c .if1 .left)) (λ c κs. tt)
     (λ c. c .weigh-bits .ensures ∙ asked (c .before .before) _ (ofBits-toBits binary64 (kg (c .before .before)) (passes _ (c .before .before .known-told .given .0 .1)))))

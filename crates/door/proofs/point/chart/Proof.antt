@@ -34,7 +34,7 @@ returns-2 c = rw (lt-leb _ _ (past c))
 pub chart-spec : {M : Type 1} → statement M
 chart-spec =
     tie.close
-    (tie.spec (λ c κs. search needs) (λ c. held _ (omega (arith, fits (c .before .before))))
+    (tie.spec (λ c κs. tt) (λ c. held _ (omega (arith, fits (c .before .before))))
     (λ c. held _ (omega (arith, c .before .before .low-edge .ensures, fits (c .before .before .before))))
     (λ c. omega (arith, fits (c .before .before .before))) (λ c. held _ (fits (c .before .before .before .before)))
     returns returns-2)

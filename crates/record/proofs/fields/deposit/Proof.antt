@@ -29,5 +29,5 @@ returns-2 c = rw (c .carbon .ensures, c .before .mass .ensures)
 pub deposit-spec : {M : Type 1} → statement M
 deposit-spec =
     tie.close
-    (tie.spec (λ c. no-type _ _ (c .if1 .taken)) (λ c κs. search needs) (λ c. search needs) (λ c. search needs)
-    (λ c κs. search needs) (λ c. search needs) (λ c. omega (arith, fits c)) (λ c. omega (arith, fits c)) returns-2)
+    (tie.spec (λ c. no-type _ _ (c .if1 .taken)) (λ c κs. tt) (λ c. search needs) (λ c. search needs)
+    (λ c κs. tt) (λ c. search needs) (λ c. omega (arith, fits c)) (λ c. omega (arith, fits c)) returns-2)

@@ -6,4 +6,4 @@ use Rattle.record.proofs.fields.is_light.Tie as tie
 
 pub is-light-spec : {M : Type 1} → statement M
 unfolding light
-is-light-spec = tie.close (tie.spec (λ c κs. search needs) (λ c. search needs) (λ c. rw (c .mass .ensures)))
+is-light-spec = tie.close (tie.spec (λ c κs. tt) (λ c. search needs) (λ c. rw (c .mass .ensures)))

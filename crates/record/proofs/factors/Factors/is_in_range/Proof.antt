@@ -12,4 +12,4 @@ returns c = simp (c .before .is-between2 .ensures, c .before .before .before .is
 pub is-in-range-spec : {M : Type 1} → statement M
 is-in-range-spec =
     tie.close
-    (tie.spec (λ c κs. search needs) (λ c. search needs) (λ c κs. search needs) returns)
+    (tie.spec (λ c κs. tt) (λ c. search needs) (λ c κs. tt) returns)
