@@ -110,7 +110,7 @@ fn text() -> [u8; LONGEST_TEXT]
 // Prints the listing of a file.
 pub fn listing(payload: &[u8]) {
     let mut text = text();
-    let listed = line::listing(payload, &mut text);
+    let listed = lines::listing(payload, &mut text);
     let length = listed.length;
     print::bytes(&text[..length]);
 }
