@@ -10,7 +10,7 @@ ghost use Rattle.door.specs.Point.{chartedOf};
 ghost use Rattle.ledger.specs.History.{outOf};
 ghost use Rattle.ledger.specs.Take.{totalsOf};
 ghost use Rattle.image.specs.Image.{imageBytes, ledgerOf};
-ghost use Rattle.line.specs.Listing.{listedOf, textOf};
+ghost use Rattle.lines.specs.Listing.{listedOf, textOf};
 ghost use Rattle.abi.specs.Entries.{freshLeft, answered, roomOf, takeHere, takeImage, takeOut, takeAnswer, runHere, runImage, cellOf};
 use door::Cell;
 use ledger::Answer;
@@ -165,7 +165,7 @@ pub extern "C" fn landfill_listing(records: &[u8], text: &mut [u8], written: &mu
     ensures { λ _. ⌜ now (text .exit) ≡ textOf (now (records .entry)) (now (text .entry)) ⌝ }
     ensures { λ _. ⌜ now (written .exit) ≡ listedOf (now (records .entry)) (length (now (text .entry))) .length ⌝ }
 {
-    let listed = line::listing(records, text);
+    let listed = lines::listing(records, text);
     *written = listed.length as u64;
     listed.refusal
 }

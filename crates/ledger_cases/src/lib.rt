@@ -119,7 +119,7 @@ pub fn listing(payload: &[u8])
     ensures { λ r. ⌜ r ≡ tt ⌝ }
 {
     let mut text = text();
-    let listed = line::listing(payload, &mut text);
+    let listed = lines::listing(payload, &mut text);
     let length = listed.length;
     print::bytes(&text[..length]);
 }

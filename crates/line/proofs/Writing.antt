@@ -5,12 +5,16 @@ use Prim.Native.Nat.{ℕ, _+_, _-_, _≤_}
 use native.Mathlib.Nat.{zero-add}
 use native.Mathlib.Omega.{arith}
 use lib.ListN.{length, drop, set, replicate, length-set, length-append, length-replicate, replicate-append-replicate}
-use lib.Seq.{sets, sets-eq, drop-at}
+use lib.Seq.{sets, length-sets, sets-eq, drop-at}
 use Rattle.numbers.proofs.Bytes.{sets-join}
 use Rattle.line.specs.declared.form.Line.{Line}
 use Rattle.line.specs.Line.{padded, Lendable}
 use Rattle.line.specs.Writing.{Writes}
 use Rattle.line.proofs.Line.{line-lendable}
+
+-- What is copied is written.
+pub copied : (l : List ℕ) (at : ℕ) (xs : List ℕ) {r : List ℕ} → r ≡ sets l at xs → Writes l at xs r (at + length xs)
+copied l at xs e = record { stands = e; as-many = ap length e ∙ length-sets l at xs; ends = refl }
 
 pub one-byte : {l : List ℕ} {at : ℕ} (b : ℕ) → Writes l at (b ∷ []) (set l at b) (at + 1)
 one-byte {l} {at} b = record { stands = refl; as-many = length-set l at b; ends = refl }

@@ -1,14 +1,10 @@
-// The lines that the listing prints, one for each accepted record and the one of a refusal, and the listing of a whole file.
-// It serves the last part of document 01's section 'Worked figures'; the program `listing` calls it.
-mod file;
+// The lines that the listing prints, one for each accepted record and the one of a refusal.
+// It serves the last part of document 01's section 'Worked figures'; `lines` puts them together.
 mod form;
 mod text;
 
-pub use file::Listed;
-pub use file::listing;
 pub use form::Line;
 use text::number;
-use text::words;
 ghost use mathlib.Core.Path.{_≡_};
 ghost use Rattle.line.specs.Line.{acceptedText, refusedText, padded, Lendable};
 
@@ -32,9 +28,9 @@ pub fn refused(refusal: u8, place: u64) -> Line
     ensures { λ r. ⌜ Lendable r ⌝ }
 {
     let mut bytes = [0u8; 90];
-    let refusal_at = words(&mut bytes, 0, b"refused ");
-    let words_at = number(&mut bytes, refusal_at, refusal as u64, b' ');
-    let place_at = words(&mut bytes, words_at, b"at record ");
-    let len = number(&mut bytes, place_at, place, b'\n');
+    numbers::write_bytes(&mut bytes, 0, b"refused ");
+    let words_at = number(&mut bytes, 8, refusal as u64, b' ');
+    numbers::write_bytes(&mut bytes, words_at, b"at record ");
+    let len = number(&mut bytes, words_at + 10, place, b'\n');
     Line { bytes, len }
 }

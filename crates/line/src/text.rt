@@ -1,4 +1,4 @@
-// Numbers and words, written into the bytes of a line.
+// Numbers, written into the bytes of a line.
 ghost use mathlib.Core.List.{_++_, _∷_, []};
 ghost use Prim.Native.Nat.{_+_, _≤_};
 ghost use lib.ListN.{length};
@@ -28,17 +28,4 @@ pub(crate) fn number(out: &mut [u8; 90], at: usize, n: u64, follows: u8) -> usiz
     let end = decimal(out, at, n);
     out[end] = follows;
     end + 1
-}
-
-// Writes words from a place on, and answers the place after them.
-pub(crate) fn words(out: &mut [u8], at: usize, text: &[u8]) -> usize
-    requires { ⌜ at + length (now text) ≤ length (now out) ⌝ }
-    ensures { λ r. ⌜ Writes (now (out .entry)) at (now (text .entry)) (now (out .exit)) r ⌝ }
-{
-    let mut i: usize = 0;
-    while i < text.len() {
-        out[at + i] = text[i];
-        i += 1;
-    }
-    at + i
 }

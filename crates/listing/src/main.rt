@@ -1,5 +1,5 @@
 // The program `listing`: the last part of document 01's section 'Worked figures'.
-// It reads records from standard input and writes what `line::listing` says of them to standard output.
+// It reads records from standard input and writes what `lines::listing` says of them to standard output.
 use libc::STDIN_FILENO;
 use libc::STDOUT_FILENO;
 ghost use Rattle.io.specs.Counts.{Counts};
@@ -58,7 +58,7 @@ fn main() {
         return;
     }
     let read = input.length;
-    let listed = line::listing(&file[..read], &mut text);
+    let listed = lines::listing(&file[..read], &mut text);
     let length = listed.length;
     if !io::write_all(STDOUT_FILENO, &text[..length]) {
         os::fail(b"listing: standard output");

@@ -1,10 +1,12 @@
 // Whole-number arithmetic that no section of document 01 owns: multiply-and-divide, numbers as little-endian bytes, tests.
 // The crates above call it; most of it asks that what it works out fits, so none of it is for a user to call.
+mod copy;
 mod le;
 mod ratio;
 mod row;
 mod test;
 
+pub use copy::write_bytes;
 pub use le::read_u16;
 pub use le::read_u32;
 pub use le::read_u64;

@@ -21,7 +21,7 @@ use Rattle.ledger.specs.declared.book.Ledger.{Ledger}
 use Rattle.ledger.proofs.Accepted as step
 use Rattle.ledger.proofs.Take.{taken, take-refusal}
 use Rattle.ledger.proofs.History.{run-roomy}
-use Rattle.line.specs.Listing.{answerText, runText, wholeRun, listingOf}
+use Rattle.lines.specs.Listing.{answerText, runText, wholeRun, listingOf}
 use Rattle.promises.specs.Offering.{Offering, offering, recordsIn}
 use Rattle.promises.specs.Exact.{inert, exactStockAt}
 use Rattle.promises.specs.Promises.{NoCarbon, Chosen, CloseTo, sums, DemandThree, SaysOwn, Promises}

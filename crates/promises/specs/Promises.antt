@@ -22,7 +22,7 @@ use Rattle.ledger.specs.declared.answer.Answer.{Answer}
 use Rattle.ledger.specs.declared.answer.Outcome.{Outcome}
 use Rattle.image.specs.Image.{imageBytes}
 use Rattle.line.specs.Line.{acceptedText}
-use Rattle.line.specs.Listing.{answerText, runText, listingOf}
+use Rattle.lines.specs.Listing.{answerText, runText, listingOf}
 use Rattle.abi.specs.Entries.{freshLeft}
 use Rattle.promises.specs.Offering.{Offering, offering, recordsIn}
 use Rattle.promises.specs.Exact.{inert, exactStockAt, exactFigure}

@@ -1,7 +1,7 @@
 -- The listing decides.
 use mathlib.Core.Path.{ap}
 use borrow.Author.Needs.{needs}
-use Rattle.line.specs.declared.file.Listed.{Listed}
+use Rattle.lines.specs.declared.Listed.{Listed}
 use Rattle.abi.proofs.landfill_listing.Statement.{statement}
 use Rattle.abi.proofs.landfill_listing.Tie as tie
 

@@ -1,0 +1,3 @@
+pub mod Enough
+pub mod Lines
+pub mod MidListing
