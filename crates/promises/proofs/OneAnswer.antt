@@ -12,6 +12,7 @@ pub mod Ledger
 pub mod Image
 pub mod Door
 pub mod Line
+pub mod Calls
 pub mod Abi
 
 infixr 4 _&_

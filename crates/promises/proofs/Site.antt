@@ -13,8 +13,10 @@ use Rattle.ledger.specs.declared.book.Ledger.{Ledger}
 use Rattle.ledger.proofs.History.{acceptedTurn, run-goes-on, run-stops, run-ends}
 use Rattle.image.specs.Image.{imageBytes, imageOf, ledgerOf, Kept}
 use Rattle.image.proofs.Kept.{image-back, fresh-kept, turns-kept}
-use Rattle.abi.specs.Entries.{freshLeft, takeHere, runHere, offersOf}
-use Rattle.abi.proofs.Calls.{fresh-keeps, take-keeps, run-keeps}
+use Rattle.calls.specs.Calls.{takeHere, runHere, offersOf}
+use Rattle.calls.proofs.Kept.{take-keeps, run-keeps}
+use Rattle.abi.specs.Entries.{freshLeft}
+use Rattle.abi.proofs.Fresh.{fresh-keeps}
 use Rattle.promises.specs.Offering.{offeringTo}
 use Rattle.promises.specs.Site.{Call, takes, runs, imageAfter, offersBy, acceptedBy, imageAfterAll, offersByAll, acceptedByAll, KeptSite}
 use Rattle.promises.proofs.Offering.{offering-ends, offering-goes-on, offering-passes-over, offering-join}
