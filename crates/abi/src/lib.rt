@@ -7,17 +7,14 @@ ghost use lib.ListN.{length};
 ghost use Rattle.decay.specs.Series.{entryOf};
 ghost use Rattle.door.specs.Cell.{answerTo};
 ghost use Rattle.door.specs.Point.{chartedOf};
-ghost use Rattle.ledger.specs.History.{outOf};
-ghost use Rattle.ledger.specs.Take.{totalsOf};
+ghost use Rattle.run.specs.History.{outOf};
+ghost use Rattle.ledger.specs.Totals.{totalsOf};
 ghost use Rattle.image.specs.Image.{imageBytes, ledgerOf};
 ghost use Rattle.lines.specs.Listing.{listedOf, textOf};
-ghost use Rattle.abi.specs.Entries.{freshLeft, answered, roomOf, takeHere, takeImage, takeOut, takeAnswer, runHere, runImage, cellOf};
+ghost use Rattle.calls.specs.Calls.{takeHere, takeImage, takeOut, takeAnswer, runHere, runImage};
+ghost use Rattle.abi.specs.Entries.{freshLeft, cellOf};
 use door::Cell;
-use ledger::Answer;
 use ledger::Ledger;
-
-// The bytes of an answer.
-const ANSWER_BYTES: usize = 88;
 
 // Answers the table entry of a rate in thousandths, kind 1 by year and 2 by month, and 0 for any other rate or kind.
 #[no_mangle]
@@ -40,27 +37,6 @@ pub extern "C" fn landfill_fresh(ledger: &mut [u8]) -> u8
     0
 }
 
-// Writes the eight releases, x0, figure and bound of an answer. A buffer under 88 bytes keeps its values.
-fn write_answer(out: &mut [u8], answer: Answer)
-    ensures { λ _. ⌜ now (out .exit) ≡ answered answer (now (out .entry)) ⌝ }
-{
-    if out.len() < ANSWER_BYTES {
-        return;
-    }
-    let releases = answer.releases;
-    numbers::write_eight(out, 0, releases);
-    numbers::write_u64(out, 64, answer.x0);
-    numbers::write_u64(out, 72, answer.figure);
-    numbers::write_u64(out, 80, answer.bound);
-}
-
-// Answers the room for the output record: none where the answer has no room.
-fn room(out: usize, answer: usize) -> usize
-    ensures { λ r. ⌜ r ≡ roomOf out answer ⌝ }
-{
-    if answer < ANSWER_BYTES { 0 } else { out }
-}
-
 // Takes one record: the image, the output and the answer are written, or the refusal's number comes back.
 #[no_mangle]
 pub extern "C" fn landfill_take(
@@ -74,14 +50,7 @@ pub extern "C" fn landfill_take(
     ensures { λ _. ⌜ now (out .exit) ≡ takeOut (now (ledger .entry)) (now («record» .entry)) (now (out .entry)) (now (answer .entry)) ⌝ }
     ensures { λ _. ⌜ now (answer .exit) ≡ takeAnswer (now (ledger .entry)) (now («record» .entry)) (now (out .entry)) (now (answer .entry)) ⌝ }
 {
-    let room = room(out.len(), answer.len());
-    let taken = image::read(ledger).take(record, &mut out[..room]);
-    write_answer(answer, taken);
-    if taken.refusal == 0 {
-        let after = taken.ledger;
-        image::write(ledger, after);
-    }
-    taken.refusal
+    calls::take(ledger, record, out, answer)
 }
 
 // Takes the records of a file one after another, writes an output record for each accepted one, and leaves the image of the
@@ -98,13 +67,7 @@ pub extern "C" fn landfill_run(
     ensures { λ _. ⌜ now (out .exit) ≡ outOf (runHere (now (ledger .entry)) (now (records .entry)) (length (now (out .entry)))) (now (out .entry)) ⌝ }
     ensures { λ _. ⌜ now (accepted .exit) ≡ length (runHere (now (ledger .entry)) (now (records .entry)) (length (now (out .entry))) .accepted) ⌝ }
 {
-    let end = ledger::run(image::read(ledger), records, out);
-    *accepted = end.accepted;
-    if end.accepted > 0 {
-        let last = end.ledger;
-        image::write(ledger, last);
-    }
-    end.refusal
+    calls::run(ledger, records, out, accepted)
 }
 
 // Answers 0 and the carbon left and brought in over all types, in mg; an unsound ledger gives 3 and zeros.

@@ -1,24 +1,16 @@
--- A test of every entry of a list, or of every number up to a last one, computed at once and carried to each.
+-- A test of every entry of a list, or of every number up to a last one, computed at once.
 use mathlib.Core.Bool.{Bool, true, _&&_}
 use mathlib.Core.List.{List, [], _∷_}
-use Prim.Native.Nat.{ℕ, zero, suc, _+_, _≤_, _<_}
+use Prim.Native.Nat.{ℕ, zero, suc, _≤_}
 use native.Mathlib.Decide.{ℕ-discrete}
-use native.Mathlib.Nat.{add-zero, add-suc, suc-add}
 use native.Mathlib.Omega.{arith}
 use lib.Dec.{T}
 use lib.Ieee.Fits.{and-l, and-r}
-use lib.ListN.{length, getD}
 
 -- The test holds of every entry with its number, the first one's being k.
 abbrev pub everyFrom : (ℕ → ℕ → Bool) → ℕ → List ℕ → Bool
 everyFrom test k [] = true
 everyFrom test k (x ∷ xs) = test k x && everyFrom test (suc k) xs
-
-pub entry-at : (test : ℕ → ℕ → Bool) (xs : List ℕ) (k : ℕ) → T (everyFrom test k xs) → (i : ℕ) → i < length xs → T (test (k + i) (getD xs i 0))
-entry-at test [] k ok i h = absurd (omega arith)
-entry-at test (x ∷ xs) k ok zero h = rw (add-zero k) (and-l (test k x) (everyFrom test (suc k) xs) ok)
-entry-at test (x ∷ xs) k ok (suc i) h =
-    rw (add-suc k i, ← suc-add k i) (entry-at test xs (suc k) (and-r (test k x) (everyFrom test (suc k) xs) ok) i (omega arith))
 
 -- The test holds of 1, 2, .., n.
 abbrev pub upTo : (ℕ → Bool) → ℕ → Bool

@@ -1,21 +1,21 @@
 -- The rule leaves one answer, which is 10^9 × E(15) rounded down; and it has that answer at every rate of both kinds, by one test each.
-use mathlib.Core.Path.{_≡_, refl, sym, _∙_}
+use mathlib.Core.Path.{_≡_, refl, sym, ap, _∙_}
 use mathlib.Core.Bool.{Bool, true, false, cond, _&&_, and-false}
-use mathlib.Core.List.{List}
-use Prim.Native.Nat.{ℕ, _+_, _-_, _^_, _≤_, _<_}
-use native.Mathlib.Nat.{div-eq-of-lt-le}
+use mathlib.Core.List.{List, [], _∷_}
+use Prim.Native.Nat.{ℕ, zero, suc, _+_, _*_, _^_, _≤_, _<_}
+use native.Mathlib.Nat.{add-zero, add-suc, suc-add, div-eq-of-lt-le}
 use native.Mathlib.Omega.{arith}
 use native.Mathlib.Decide.{ℕ-discrete, decLe}
 use borrow.Author.Tests.{eq-eqb, ne-eqb, le-leb, lt-leb, leb-true}
 use lib.Dec.{T, leb, ltb, eqb, leb→le, ltb→lt}
 use lib.Ieee.Fits.{and-l, and-r}
-use lib.ListN.{length, getD}
+use lib.ListN.{length, getD, replicate, List·getD-eq-default}
 use Rattle.numbers.specs.Fraction.{Fraction, over, whole, floor, _⊗_, _≼_, _≺_, total}
-use Rattle.numbers.proofs.Fraction.{at-most-trans, at-most-below, less-with, times-at-most, atMost?, below?}
-use Rattle.decay.specs.Series.{factorial, term, E, Encloses, roundedDown, isKind, exponent, entryOf, TableOf}
+use Rattle.numbers.proofs.Fraction.{at-most-trans, at-most-below, less-with, times-at-most}
+use Rattle.decay.specs.Series.{factorial, term, E, Encloses, roundedDown, isKind, exponent, entryOf, entriesFrom, tableOf, atRate}
 use Rattle.decay.proofs.Series.{odd-term}
-use Rattle.decay.proofs.Sums.{summed, sum-is}
-use Rattle.decay.proofs.Every.{everyFrom, entry-at, upTo, number-at}
+use Rattle.decay.proofs.Sums.{alike, others, bottom-pos, summed, sum-is}
+use Rattle.decay.proofs.Every.{everyFrom, upTo, number-at}
 
 -- 10^9 × E(15), which the rule has from below, is below D + 1 too
 module _ (p q : ℕ) (h : 0 < q) where
@@ -36,33 +36,45 @@ module _ (p q : ℕ) (h : 0 < q) where
   pub one-answer : (D D′ : ℕ) → Encloses x D → Encloses x D′ → D ≡ D′
   one-answer D D′ e e′ = is-rounded-down D e ∙ sym (is-rounded-down D′ e′)
 
--- The rule as a test, on the sums over one denominator, with the bound of an entry.
+-- The rule for a sum (plus − minus) / den, multiplied out.
+from-below : (D plus minus den : ℕ) (h : 0 < den) → D * den + 10 ^ 9 * minus ≤ 10 ^ 9 * plus
+    → whole D ≼ whole (10 ^ 9) ⊗ record { plus = plus; minus = minus; den = den; pos = h }
+from-below D plus minus den h e = omega arith
+
+from-above : (D plus minus den : ℕ) (h : 0 < den) → 10 ^ 9 * plus < (D + 1) * den + 10 ^ 9 * minus
+    → whole (10 ^ 9) ⊗ record { plus = plus; minus = minus; den = den; pos = h } ≺ whole (D + 1)
+from-above D plus minus den h e = omega arith
+
+-- It is a test of the sums over one denominator, with the bound of an entry.
 module _ (p q : ℕ) (h : 0 < q) where
+  unfoldable pub low? : ℕ → Bool
+  low? D = leb (D * (q ^ 15 * factorial 15) + 10 ^ 9 * alike p q h 15) (10 ^ 9 * others p q h 15)
+
+  unfoldable pub high? : ℕ → Bool
+  high? D = ltb (10 ^ 9 * alike p q h 14) ((D + 1) * (q ^ 14 * factorial 14) + 10 ^ 9 * others p q h 14)
+
   unfoldable pub encloses? : ℕ → Bool
-  encloses? D =
-      atMost? (whole D) (whole (10 ^ 9) ⊗ summed p q h 15)
-      && below? (whole (10 ^ 9) ⊗ summed p q h 14) (whole (D + 1))
-      && ltb D (10 ^ 9)
+  encloses? D = low? D && high? D && ltb D (10 ^ 9)
 
   pub record Entry (D : ℕ) : Type 0 where
     pub rule : Encloses (over p q h) D
     pub small : D < 10 ^ 9
 
   meets : (D : ℕ) → T (encloses? D) → Entry D
-  unfolding encloses? atMost? below?
+  unfolding encloses? low? high?
   meets D ok =
       let x = over p q h in
-      let low = atMost? (whole D) (whole (10 ^ 9) ⊗ summed p q h 15) in
-      let high = below? (whole (10 ^ 9) ⊗ summed p q h 14) (whole (D + 1)) in
-      let rule = and-l (low && high) (ltb D (10 ^ 9)) ok in
+      let rule = and-l (low? D && high? D) (ltb D (10 ^ 9)) ok in
       record {
         rule = record {
           low = at-most-trans (whole D) (whole (10 ^ 9) ⊗ summed p q h 15) (whole (10 ^ 9) ⊗ E x 15)
-              (leb→le _ _ (and-l low high rule)) (times-at-most (summed p q h 15) (E x 15) (10 ^ 9) (omega (arith, sum-is p q h 15)));
+              (from-below D _ _ _ (bottom-pos p q h 15) (leb→le _ _ (and-l (low? D) (high? D) rule)))
+              (times-at-most (summed p q h 15) (E x 15) (10 ^ 9) (omega (arith, sum-is p q h 15)));
           high = at-most-below (whole (10 ^ 9) ⊗ E x 14) (whole (10 ^ 9) ⊗ summed p q h 14) (whole (D + 1))
-              (times-at-most (E x 14) (summed p q h 14) (10 ^ 9) (omega (arith, sum-is p q h 14))) (ltb→lt _ _ (and-r low high rule));
+              (times-at-most (E x 14) (summed p q h 14) (10 ^ 9) (omega (arith, sum-is p q h 14)))
+              (from-above D _ _ _ (bottom-pos p q h 14) (ltb→lt _ _ (and-r (low? D) (high? D) rule)));
         };
-        small = ltb→lt _ _ (and-r (low && high) (ltb D (10 ^ 9)) ok);
+        small = ltb→lt _ _ (and-r (low? D && high? D) (ltb D (10 ^ 9)) ok);
       }
 
   summed-down : ℕ
@@ -80,21 +92,12 @@ module _ (d : ℕ) (h : 0 < d) where
   unfolding rate?
   every-rate ok r low high = here r d h (number-at rate? 400 ok r low high)
 
-  -- what stands at a rate in a table that passes the test
-  pub in-table : (table : List ℕ) → T (everyFrom (λ r D. encloses? r d h D) 1 table) → (r : ℕ) → 1 ≤ r → r ≤ length table
-      → getD table (r - 1) 0 ≡ roundedDown (over r d h)
-  in-table table ok r low high =
-      let first : 1 + (r - 1) ≡ r = omega arith in
-      let e : Entry r d h (getD table (r - 1) 0)
-      = meets r d h (getD table (r - 1) 0) (rw first at (entry-at (λ r D. encloses? r d h D) table 1 ok (r - 1) (omega arith))) in
-      is-rounded-down r d h (getD table (r - 1) 0) (e .rule)
-
 yearly : (r : ℕ) → 1 ≤ r → r ≤ 400 → Entry r 1000 (omega arith) (roundedDown (over r 1000 (omega arith)))
-unfolding rate? summed-down encloses? atMost? below? factorial
+unfolding rate? summed-down encloses? low? high? factorial
 yearly = every-rate 1000 (omega arith) tt
 
 monthly : (r : ℕ) → 1 ≤ r → r ≤ 400 → Entry r 12000 (omega arith) (roundedDown (over r 12000 (omega arith)))
-unfolding rate? summed-down encloses? atMost? below? factorial
+unfolding rate? summed-down encloses? low? high? factorial
 monthly = every-rate 12000 (omega arith) tt
 
 -- What is known of every entry, once over the kind.
@@ -124,15 +127,59 @@ entry-below kind rate = by-test (isKind kind) (leb 1 rate) (leb rate 400) refl r
     by-test true false c p q r = simp (p, q) (omega arith)
     by-test true true false p q r = simp (p, q, r) (omega arith)
 
+-- Numbers that pass the test are the entries of their rates.
+module _ (kind d : ℕ) (h : 0 < d) (is : (rate : ℕ) → exponent kind rate ≡ over rate d h) (k : isKind kind ≡ true) where
+  entry-is : (rate D : ℕ) → 1 ≤ rate → rate ≤ 400 → T (encloses? rate d h D) → D ≡ entryOf kind rate
+  unfolding entryOf
+  entry-is rate D low high ok = simp (k, le-leb 1 rate low, le-leb rate 400 high, is rate) (is-rounded-down rate d h D (meets rate d h D ok .rule))
+
+  entries-are : (table : List ℕ) (rate : ℕ) → 1 ≤ rate → rate + length table ≤ 401
+      → T (everyFrom (λ r D. encloses? r d h D) rate table) → table ≡ entriesFrom kind rate (length table)
+  unfolding entriesFrom
+  entries-are [] rate low high ok = refl
+  entries-are (D ∷ table) rate low high ok =
+      let test : ℕ → ℕ → Bool = λ r D. encloses? r d h D in
+      let first = entry-is rate D low (omega arith) (and-l (test rate D) (everyFrom test (suc rate) table) ok) in
+      let others = entries-are table (suc rate) (omega arith) (omega arith) (and-r (test rate D) (everyFrom test (suc rate) table) ok) in
+      λ i. first i ∷ others i
+
+  all-are : (table : List ℕ) → T (everyFrom (λ r D. encloses? r d h D) 1 table) → length table ≡ 400 → table ≡ tableOf kind
+  unfolding tableOf
+  all-are table ok n = entries-are table 1 (omega arith) (omega arith) ok ∙ ap (entriesFrom kind 1) n
+
+pub yearly-table : (table : List ℕ) → T (everyFrom (λ r D. encloses? r 1000 (omega arith) D) 1 table) → length table ≡ 400 → table ≡ tableOf 1
+yearly-table = all-are 1 1000 (omega arith) (λ r. refl) refl
+
+pub monthly-table : (table : List ℕ) → T (everyFrom (λ r D. encloses? r 12000 (omega arith) D) 1 table) → length table ≡ 400 → table ≡ tableOf 2
+monthly-table = all-are 2 12000 (omega arith) (λ r. refl) refl
+
+-- Any other kind has zeros.
+zeros : (kind rate many : ℕ) → isKind kind ≡ false → replicate many 0 ≡ entriesFrom kind rate many
+unfolding entryOf entriesFrom
+zeros kind rate zero k = refl
+zeros kind rate (suc many) k = simp k (λ i. 0 ∷ zeros kind (suc rate) many k i)
+
+pub no-table : (kind : ℕ) → isKind kind ≡ false → replicate 400 0 ≡ tableOf kind
+unfolding tableOf
+no-table kind k = zeros kind 1 400 k
+
 -- The look-up in the table of a kind is its entry.
-pub looked-up : (kind rate : ℕ) (table : List ℕ) → TableOf kind table → cond (eqb rate 0) 0 (cond (leb rate 400) (getD table (rate - 1) 0) 0) ≡ entryOf kind rate
-unfolding entryOf
-looked-up kind rate table h =
-    elim (ℕ-discrete rate 0) [
-      | yes z ↦ simp (eq-eqb rate 0 z, lt-leb 1 rate (omega arith), and-false)
-      | no z ↦ elim (decLe rate 400) [
-        | yes l ↦ let found : cond (eqb rate 0) 0 (cond (leb rate 400) (getD table (rate - 1) 0) 0) ≡ getD table (rate - 1) 0
-            = simp (ne-eqb rate 0 z, le-leb rate 400 l) in found ∙ h rate (omega arith) l
-        | no l ↦ simp (lt-leb rate 400 (omega arith), and-false, ne-eqb rate 0 z)
-      ]
+entry-at : (kind rate many i : ℕ) → i < many → getD (entriesFrom kind rate many) i 0 ≡ entryOf kind (rate + i)
+unfolding entriesFrom
+entry-at kind rate zero i h = absurd (omega arith)
+entry-at kind rate (suc many) zero h = rw (add-zero rate)
+entry-at kind rate (suc many) (suc i) h = rw (add-suc rate i, ← suc-add rate i) (entry-at kind (suc rate) many i (omega arith))
+
+entries-size : (kind rate many : ℕ) → length (entriesFrom kind rate many) ≡ many
+unfolding entriesFrom
+entries-size kind rate zero = refl
+entries-size kind rate (suc many) = ap suc (entries-size kind (suc rate) many)
+
+pub looked-up : (kind rate : ℕ) → atRate (tableOf kind) rate ≡ entryOf kind rate
+unfolding entryOf tableOf
+looked-up kind zero = simp and-false
+looked-up kind (suc i) =
+    elim (decLe (suc i) 400) [
+      | yes l ↦ let next : 1 + i ≡ suc i = omega arith in rw next at (entry-at kind 1 400 i (omega arith))
+      | no l ↦ List·getD-eq-default (entriesFrom kind 1 400) 0 {n = i} (omega (arith, entries-size kind 1 400)) ∙ simp (lt-leb (suc i) 400 (omega arith), and-false)
     ]

@@ -1,8 +1,8 @@
 -- Document 01, 'The decay table': the series, the enclosure rule and the entries.
 use mathlib.Core.Path.{_≡_}
 use mathlib.Core.Bool.{Bool, cond, _&&_, _||_}
-use mathlib.Core.List.{List}
-use Prim.Native.Nat.{ℕ, zero, suc, _+_, _-_, _*_, _^_, _≤_, _<_}
+use mathlib.Core.List.{List, [], _∷_}
+use Prim.Native.Nat.{ℕ, zero, suc, _+_, _*_, _^_, _<_}
 use native.Mathlib.Nat.{mul-pos}
 use native.Mathlib.Omega.{arith}
 use lib.Dec.{leb, eqb}
@@ -53,6 +53,15 @@ exponent kind r = cond (eqb kind 1) (over r 1000 (omega arith)) (over r 12000 (o
 unfoldable pub entryOf : (kind rate : ℕ) → ℕ
 entryOf kind rate = cond (isKind kind && leb 1 rate && leb rate 400) (roundedDown (exponent kind rate)) 0
 
+-- The entries of a kind from a rate on, so many of them.
+unfoldable pub entriesFrom : (kind rate many : ℕ) → List ℕ
+entriesFrom kind rate zero = []
+entriesFrom kind rate (suc many) = entryOf kind rate ∷ entriesFrom kind (suc rate) many
+
 -- The 400 numbers of a kind, the first for rate 1.
-abbrev pub TableOf : ℕ → List ℕ → Type 0
-TableOf kind table = (rate : ℕ) → 1 ≤ rate → rate ≤ 400 → getD table (rate - 1) 0 ≡ entryOf kind rate
+unfoldable pub tableOf : ℕ → List ℕ
+tableOf kind = entriesFrom kind 1 400
+
+-- What a table has for a rate, and 0 for a rate that it does not have.
+abbrev pub atRate : List ℕ → ℕ → ℕ
+atRate table rate = getD (0 ∷ table) rate 0

@@ -2,9 +2,9 @@
 // The ledger looks up the entries of a run once, before its first record.
 mod table;
 
+pub use table::at_rate;
+pub use table::table_of;
 ghost use mathlib.Core.Path.{_≡_};
-ghost use lib.ListN.{getD};
-ghost use Rattle.numbers.specs.Eight.{eight};
 ghost use Rattle.decay.specs.Series.{isKind, entryOf};
 
 // Tells whether a number is a kind's: 1 yearly, 2 monthly.
@@ -20,16 +20,4 @@ pub fn entry(kind: u8, rate: u16) -> u32
 {
     let table = table::table_of(kind);
     table::at_rate(&table, rate)
-}
-
-// Answers the entries of eight rates at once.
-pub fn entries(kind: u8, rates: [u16; 8]) -> [u32; 8]
-    ensures { λ r. ⌜ r ≡ eight (λ t. entryOf kind (getD rates t 0)) ⌝ }
-{
-    let table = table::table_of(kind);
-    let mut found = [0u32; 8];
-    for t in 0..8 {
-        found[t] = table::at_rate(&table, rates[t]);
-    }
-    found
 }

@@ -1,10 +1,6 @@
 // The two tables of 400 entries, as tools/decay_tables.py prints them.
 ghost use mathlib.Core.Path.{_≡_};
-ghost use mathlib.Core.Bool.{cond};
-ghost use Prim.Native.Nat.{_-_};
-ghost use lib.Dec.{eqb, leb};
-ghost use lib.ListN.{length, getD};
-ghost use Rattle.decay.specs.Series.{TableOf};
+ghost use Rattle.decay.specs.Series.{tableOf, atRate};
 
 const YEARLY: [u32; 400] = [
     999000499,
@@ -813,8 +809,8 @@ const MONTHLY: [u32; 400] = [
 ];
 
 // Answers the table of a kind, and only zeros for any other kind.
-pub(crate) fn table_of(kind: u8) -> [u32; 400]
-    ensures { λ r. ⌜ TableOf kind r ⌝ }
+pub fn table_of(kind: u8) -> [u32; 400]
+    ensures { λ r. ⌜ r ≡ tableOf kind ⌝ }
 {
     if kind == 1 {
         return YEARLY;
@@ -825,15 +821,14 @@ pub(crate) fn table_of(kind: u8) -> [u32; 400]
     [0; 400]
 }
 
-// Answers what a table has for a rate, and 0 for a rate that it does not have.
-pub(crate) fn at_rate(table: &[u32], rate: u16) -> u32
-    requires { ⌜ length (now table) ≡ 400 ⌝ }
-    ensures { λ r. ⌜ r ≡ cond (eqb rate 0) 0 (cond (leb rate 400) (getD (now (table .entry)) (rate - 1) 0) 0) ⌝ }
+// Answers what a table has for a rate, its first number for rate 1, and 0 for a rate that it does not have.
+pub fn at_rate(table: &[u32], rate: u16) -> u32
+    ensures { λ r. ⌜ r ≡ atRate (now (table .entry)) rate ⌝ }
 {
     if rate == 0 {
         return 0;
     }
-    if rate > 400 {
+    if rate as usize > table.len() {
         return 0;
     }
     table[rate as usize - 1]

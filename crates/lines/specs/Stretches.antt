@@ -8,7 +8,7 @@ use lib.ListN.{length, take, drop}
 use Rattle.numbers.specs.Bytes.{numberAt}
 use Rattle.record.specs.Fields.{recordBytes}
 use Rattle.stock.specs.Stock.{mostRecords}
-use Rattle.ledger.specs.History.{recordsOf, Run, runOf}
+use Rattle.run.specs.History.{recordsOf, Run, runOf}
 use Rattle.ledger.specs.declared.book.Ledger.{Ledger}
 use Rattle.line.specs.Line.{acceptedText}
 use Rattle.line.specs.Writing.{Writes}

@@ -13,6 +13,7 @@ pub mod Image
 pub mod Door
 pub mod Line
 pub mod Lines
+pub mod Calls
 pub mod Abi
 
 infixr 4 _&_

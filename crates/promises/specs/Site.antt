@@ -3,9 +3,9 @@ use mathlib.Core.Path.{_≡_}
 use mathlib.Core.List.{List, [], _∷_, _++_}
 use Prim.Native.Nat.{ℕ}
 use lib.ListN.{length}
-use Rattle.ledger.specs.History.{Offer, Turn, accepted}
+use Rattle.run.specs.History.{Offer, Turn, accepted}
 use Rattle.image.specs.Image.{imageOf, ledgerOf}
-use Rattle.abi.specs.Entries.{takeHere, takeImage, runHere, runImage, offerOf, offersOf}
+use Rattle.calls.specs.Calls.{takeHere, takeImage, runHere, runImage, offerOf, offersOf}
 use Rattle.promises.specs.Offering.{offering}
 
 -- A call of `landfill_take` with a record, or of `landfill_run` with a file, and the buffers that are lent to it.

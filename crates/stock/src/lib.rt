@@ -2,20 +2,48 @@
 // It serves 'One step' and refusal 3 of document 01; the ledger calls it. Place 0 of a list is type 1.
 ghost use mathlib.Core.Bool.{_&&_};
 ghost use mathlib.Core.Path.{_≡_};
-ghost use Prim.Native.Nat.{_%_, _^_, _≤_, _<_};
+ghost use Prim.Native.Nat.{_+_, _%_, _^_, _≤_, _<_};
 ghost use lib.Dec.{leb};
 ghost use lib.ListN.{getD};
 ghost use Rattle.numbers.specs.Eight.{eight, sumOf, everyOf};
+ghost use Rattle.decay.specs.Series.{atRate};
+ghost use Rattle.waste.specs.Waste.{rateOf};
 ghost use Rattle.stock.specs.Stock.{mostRecords, entryAt, ceilingOf, withinOf};
 
 // The most records that a ledger takes.
 pub const RECORDS: u16 = 1200;
 
+// Answers what a table has for eight rates.
+fn rated(table: &[u32], rates: [u16; 8]) -> [u32; 8]
+    ensures { λ r. ⌜ r ≡ eight (λ t. atRate (now (table .entry)) (getD rates t 0)) ⌝ }
+{
+    let mut found = [0u32; 8];
+    for t in 0..8 {
+        found[t] = decay::at_rate(table, rates[t]);
+    }
+    found
+}
+
+// Answers what a table has for the eight types in a climate. Each climate is written out, so that its rates are known before the
+// program runs, and only their entries of a table are stored.
+fn in_climate(table: &[u32], climate: u8) -> [u32; 8]
+    ensures { λ r. ⌜ r ≡ eight (λ t. atRate (now (table .entry)) (rateOf (t + 1) climate)) ⌝ }
+{
+    match climate {
+        1 => rated(table, waste::rates(1)),
+        2 => rated(table, waste::rates(2)),
+        3 => rated(table, waste::rates(3)),
+        4 => rated(table, waste::rates(4)),
+        _ => [0; 8],
+    }
+}
+
 // Answers the table entries of the eight types in a kind and climate.
 pub fn entries(kind: u8, climate: u8) -> [u32; 8]
     ensures { λ r. ⌜ r ≡ eight (entryAt kind climate) ⌝ }
 {
-    decay::entries(kind, waste::rates(climate))
+    let table = decay::table_of(kind);
+    in_climate(&table, climate)
 }
 
 // Tells whether T and R of place t are within what n records can bring.

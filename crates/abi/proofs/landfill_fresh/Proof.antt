@@ -6,7 +6,7 @@ use denote.Ref.{now}
 use Rattle.ledger.specs.Stock.{fresh}
 use Rattle.image.proofs.Laws.{image-fills}
 use Rattle.abi.specs.Entries.{freshLeft}
-use Rattle.abi.proofs.Takes.{fresh-zeros}
+use Rattle.abi.proofs.Fresh.{fresh-zeros}
 use Rattle.abi.proofs.landfill_fresh.Statement.{statement}
 use Rattle.abi.proofs.landfill_fresh.Tie as tie
 

@@ -1,6 +1,9 @@
 -- The table of the kind, asked for the rate.
-use mathlib.Core.Path.{_∙_}
+use mathlib.Core.Path.{ap, _∙_}
+use mathlib.Core.List.{List}
+use Prim.Native.Nat.{ℕ}
 use borrow.Author.Needs.{needs}
+use Rattle.decay.specs.Series.{atRate}
 use Rattle.decay.proofs.Rule.{looked-up}
 use Rattle.decay.proofs.entry.Statement.{statement}
 use Rattle.decay.proofs.entry.Tie as tie
@@ -8,7 +11,7 @@ use Rattle.decay.proofs.entry.Tie as tie
 returns : tie.Need-returns
 returns c =
     let a = c .before .before .before .args in
-    c .at-rate .ensures ∙ looked-up (a .kind) (a .rate) (c .before .before .table-of .result) (c .before .before .table-of .ensures)
+    c .at-rate .ensures ∙ ap (λ (table : List ℕ). atRate table (a .rate)) (c .before .before .table-of .ensures) ∙ looked-up (a .kind) (a .rate)
 
 pub entry-spec : {M : Type 1} → statement M
 entry-spec = tie.close (tie.spec (λ c κs. search needs) (λ c. search needs) (λ c κs. search needs) returns)

@@ -1,10 +1,11 @@
--- The public functions of `ledger`.
+-- The public functions of `ledger`, `run` and `step`.
 use denote.Ref.{now}
 use Rattle.ledger.proofs.book.Ledger.fresh.Reads as fresh
 use Rattle.ledger.proofs.book.Ledger.is_sound.Reads as is-sound
-use Rattle.ledger.proofs.book.Ledger.take.Reads as take
+use Rattle.ledger.proofs.book.Ledger.refusal.Reads as refusal
 use Rattle.ledger.proofs.book.Ledger.totals.Reads as totals
-use Rattle.ledger.proofs.run.Reads as run
+use Rattle.run.proofs.run.Reads as run
+use Rattle.step.proofs.take.Reads as take
 use Rattle.promises.proofs.OneAnswer.{OneAnswer, Settled, by-equation, _&_, both}
 
 pub fresh-one : OneAnswer fresh.Learnt
@@ -13,11 +14,14 @@ fresh-one = by-equation (λ κs a r s p. p)
 pub is-sound-one : OneAnswer is-sound.Learnt
 is-sound-one = by-equation (λ κs a r s p. p)
 
-pub take-one : Settled take.Learnt (λ κs r s. r & now (s .1 .1 .0))
-take-one = by-equation (λ κs a r s p. both (p .0) (p .1))
+pub refusal-one : OneAnswer refusal.Learnt
+refusal-one = by-equation (λ κs a r s p. p)
 
 pub totals-one : OneAnswer totals.Learnt
 totals-one = by-equation (λ κs a r s p. p)
 
 pub run-one : Settled run.Learnt (λ κs r s. r & now (s .1 .1 .0))
 run-one = by-equation (λ κs a r s p. both (p .0) (p .1))
+
+pub take-one : Settled take.Learnt (λ κs r s. r & now (s .1 .1 .0))
+take-one = by-equation (λ κs a r s p. both (p .0) (p .1))

@@ -5,8 +5,8 @@ use native.Mathlib.Omega.{arith}
 use borrow.Author.Needs.{needs}
 use denote.Ref.{now}
 use lib.ListN.{length, take}
-use Rattle.ledger.specs.History.{outcomeOf, outOf}
-use Rattle.ledger.specs.declared.answer.Outcome.{Outcome}
+use Rattle.run.specs.History.{outcomeOf, outOf}
+use Rattle.run.specs.declared.answer.Outcome.{Outcome}
 use Rattle.line.specs.Writing.{Writes}
 use Rattle.lines.specs.Listing.{linesOf}
 use Rattle.lines.proofs.MidListing.{goes, ends, MidListing, listing-starts, listing-ends, ran, output-stays, lines-fit, stretch-on}

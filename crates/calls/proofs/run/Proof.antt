@@ -4,22 +4,22 @@ use native.Mathlib.Omega.{arith}
 use borrow.Author.Needs.{needs}
 use denote.Ref.{now}
 use lib.ListN.{length}
-use Rattle.ledger.specs.History.{recordsOf, outcomeOf, outOf}
-use Rattle.ledger.specs.declared.answer.Outcome.{Outcome}
-use Rattle.abi.specs.Entries.{runHere}
-use Rattle.abi.proofs.Takes.{run-next, run-stays}
-use Rattle.abi.proofs.landfill_run.Statement.{statement}
-use Rattle.abi.proofs.landfill_run.Tie as tie
+use Rattle.run.specs.History.{recordsOf, outcomeOf, outOf}
+use Rattle.run.specs.declared.answer.Outcome.{Outcome}
+use Rattle.calls.specs.Calls.{runHere}
+use Rattle.calls.proofs.Takes.{run-next, run-stays}
+use Rattle.calls.proofs.run.Statement.{statement}
+use Rattle.calls.proofs.run.Tie as tie
 
 -- the outcome of the run, and what it leaves in the output
 abbrev start : tie.After-run → tie.Start
 start c = c .before .before .before .before .before .before .before
 
-done : (c : tie.After-run) → let s = start c .args in c .run .result ≡ outcomeOf (runHere (now (s .ledger)) (s .records .now) (length (now (s .out))))
+done : (c : tie.After-run) → let s = start c .args in c .run .result ≡ outcomeOf (runHere (now (s .image)) (s .records .now) (length (now (s .out))))
 unfolding runHere
 done c = rw (c .before .before .read .ensures) at (c .run .ensures .0)
 
-written : (c : tie.After-run) → let s = start c .args in c .run .last .1 .1 .0 ≡ outOf (runHere (now (s .ledger)) (s .records .now) (length (now (s .out)))) (now (s .out))
+written : (c : tie.After-run) → let s = start c .args in c .run .last .1 .1 .0 ≡ outOf (runHere (now (s .image)) (s .records .now) (length (now (s .out)))) (now (s .out))
 unfolding runHere
 written c = rw (c .before .before .read .ensures) at (c .run .ensures .1)
 
@@ -31,7 +31,7 @@ returns c =
     let count = ap (λ (o : Outcome). o .accepted) (done run) in (
       ap (λ (o : Outcome). o .refusal) (done run),
       (
-        c .before .before .write .ensures ∙ rw (done run) (run-next (now (s .ledger)) (recordsOf (s .records .now)) (length (now (s .out))) (omega (arith, count, c .before .before .before .before .before .if1 .taken))),
+        c .before .before .write .ensures ∙ rw (done run) (run-next (now (s .image)) (recordsOf (s .records .now)) (length (now (s .out))) (omega (arith, count, c .before .before .before .before .before .if1 .taken))),
         (written run, count),
       ),
     )
@@ -43,11 +43,11 @@ returns-2 c =
     let s = start run .args in
     let count = ap (λ (o : Outcome). o .accepted) (done run) in (
       ap (λ (o : Outcome). o .refusal) (done run),
-      (sym (run-stays (now (s .ledger)) (runHere (now (s .ledger)) (s .records .now) (length (now (s .out)))) (omega (arith, count, c .if1 .left))), (written run, count)),
+      (sym (run-stays (now (s .image)) (runHere (now (s .image)) (s .records .now) (length (now (s .out)))) (omega (arith, count, c .if1 .left))), (written run, count)),
     )
 
-pub landfill-run-spec : {M : Type 1} → statement M
-landfill-run-spec =
+pub run-spec : {M : Type 1} → statement M
+run-spec =
     tie.close
     (tie.spec (λ c κs. search needs) (λ c κs. search needs) (λ c κs. search needs) (λ c. search needs) (λ c. search needs)
     returns (λ c. search needs) (λ c. search needs) returns-2)

@@ -1,8 +1,8 @@
 -- Both answers of the test.
 use borrow.Author.Tests.{lt-ltb, le-ltb}
-use Rattle.abi.specs.Entries.{roomOf}
-use Rattle.abi.proofs.room.Statement.{statement}
-use Rattle.abi.proofs.room.Tie as tie
+use Rattle.calls.specs.Calls.{roomOf}
+use Rattle.calls.proofs.room.Statement.{statement}
+use Rattle.calls.proofs.room.Tie as tie
 
 pub room-spec : {M : Type 1} → statement M
 unfolding roomOf

@@ -1,29 +1,22 @@
--- From call to call: what an entry leaves of the image of a kept ledger is the image of the ledger after the offers that it made.
+-- From call to call: what one leaves of the image of a kept ledger is the image of the ledger after the offers that it made.
 -- That ledger can be kept again by `turns-kept`, so the next call begins where this one ended.
 use mathlib.Core.Path.{_≡_, refl, sym, ap, _∙_}
 use mathlib.Core.List.{List, [], _∷_}
 use Prim.Native.Nat.{ℕ, suc, _-_}
 use native.Mathlib.Decide.{ℕ-discrete}
 use native.Mathlib.Omega.{arith}
-use borrow.Author.Tests.{eq-eqb}
 use lib.ListN.{length, take}
 use Rattle.record.specs.Fields.{recordBytes}
-use Rattle.ledger.specs.Stock.{fresh}
 use Rattle.ledger.specs.Refusal.{refusalOf}
-use Rattle.ledger.specs.Take.{acceptedOf, takeOf}
-use Rattle.ledger.specs.History.{Turn, turns, ledgerAfter, recordsOf, inTurn, runOf}
+use Rattle.run.specs.Take.{acceptedOf, takeOf}
+use Rattle.run.specs.History.{Turn, turns, ledgerAfter, recordsOf, inTurn, runOf}
 use Rattle.ledger.specs.declared.book.Ledger.{Ledger}
-use Rattle.ledger.proofs.Take.{taken, take-refusal, refused-keeps}
-use Rattle.ledger.proofs.History.{run-goes-on, run-stops, run-ends}
-use Rattle.image.specs.Image.{imageBytes, imageOf, Kept}
+use Rattle.run.proofs.Take.{taken, take-refusal, refused-keeps}
+use Rattle.run.proofs.History.{run-goes-on, run-stops, run-ends}
+use Rattle.image.specs.Image.{imageOf, Kept}
 use Rattle.image.proofs.Kept.{image-back}
-use Rattle.abi.specs.Entries.{freshLeft, roomOf, takeHere, takeImage, runHere, runImage, offerOf, offersOf}
-use Rattle.abi.proofs.Takes.{fresh-zeros, when-zero, when-not}
-
--- A fresh buffer is the image of a fresh ledger.
-pub fresh-keeps : (image : List ℕ) → length image ≡ imageBytes → freshLeft image ≡ imageOf fresh
-unfolding freshLeft
-fresh-keeps image e = simp (eq-eqb (length image) imageBytes e) (sym fresh-zeros)
+use Rattle.calls.specs.Calls.{roomOf, takeHere, takeImage, runHere, runImage, offerOf, offersOf}
+use Rattle.calls.proofs.Takes.{when-zero, when-not}
 
 -- After no turns the ledger is the one before them.
 none-after : (l : Ledger) (done : List Turn) → length done ≡ 0 → ledgerAfter l done ≡ l

@@ -7,9 +7,9 @@ use denote.Ref.{now}
 use lib.ListN.{length, getD}
 use Rattle.numbers.specs.Bytes.{bytesOf, rowOf}
 use Rattle.numbers.proofs.Bytes.{front-written}
-use Rattle.abi.specs.Entries.{answerRow, answered}
-use Rattle.abi.proofs.write_answer.Statement.{statement}
-use Rattle.abi.proofs.write_answer.Tie as tie
+use Rattle.calls.specs.Calls.{answerRow, answered}
+use Rattle.calls.proofs.write_answer.Statement.{statement}
+use Rattle.calls.proofs.write_answer.Tie as tie
 
 returns-2 : tie.Need-returns-2
 unfolding answerRow answered

@@ -7,25 +7,19 @@ use native.Mathlib.Decide.{ℕ-discrete}
 use native.Mathlib.Omega.{arith}
 use borrow.Author.Tests.{eq-eqb, ne-eqb}
 use lib.Dec.{eqb, ltb}
-use lib.ListN.{length, take, drop, replicate, take-append-drop, drop-of-length-le}
+use lib.ListN.{length, take, drop, take-append-drop, drop-of-length-le}
 use lib.Seq.{take-all, length-take-le}
-use Rattle.ledger.specs.Stock.{fresh}
 use Rattle.ledger.specs.Refusal.{refusalOf}
-use Rattle.ledger.specs.Take.{acceptedOf, takeOf, writtenOf, outputRecord}
-use Rattle.ledger.specs.History.{Run, runOf}
+use Rattle.run.specs.Take.{acceptedOf, takeOf, writtenOf, outputRecord}
+use Rattle.run.specs.History.{Run, runOf}
 use Rattle.ledger.specs.declared.book.Ledger.{Ledger}
-use Rattle.ledger.specs.declared.answer.Answer.{Answer}
+use Rattle.run.specs.declared.answer.Answer.{Answer}
 use Rattle.ledger.proofs.Accepted.{accepted, has-room}
-use Rattle.ledger.proofs.Take.{taken, take-refusal, refused-writes-nothing}
-use Rattle.ledger.proofs.History.{run-stops, run-ends}
+use Rattle.run.proofs.Take.{taken, take-refusal, refused-writes-nothing}
+use Rattle.run.proofs.History.{run-stops, run-ends}
 use Rattle.image.specs.Image.{imageBytes, isImage, noLedger, ledgerOf, imageOf, imaged}
 use Rattle.image.proofs.Laws.{image-size, image-fills}
-use Rattle.abi.specs.Entries.{answerBytes, roomOf, takeHere, takeImage, takeOut, runImage}
-
--- The image of a fresh ledger is 136 zeros.
-pub fresh-zeros : imageOf fresh ≡ replicate 136 0
-unfolding imageOf fresh
-fresh-zeros = refl
+use Rattle.calls.specs.Calls.{answerBytes, roomOf, takeHere, takeImage, takeOut, runImage}
 
 -- A record is accepted only where the bytes are an image.
 accepted-image : (image bytes : List ℕ) (room : ℕ) → refusalOf (ledgerOf image) bytes room ≡ 0 → length image ≡ imageBytes

@@ -5,33 +5,33 @@ use native.Mathlib.Omega.{arith}
 use borrow.Author.Needs.{needs}
 use denote.Ref.{now}
 use lib.ListN.{length, drop}
-use Rattle.ledger.specs.declared.answer.Answer.{Answer}
-use Rattle.abi.specs.Entries.{answered, takeHere, takeOut, takeAnswer}
-use Rattle.abi.proofs.Takes.{room-most, part-length, step-is, out-is, image-next, image-stays}
-use Rattle.abi.proofs.landfill_take.Statement.{statement}
-use Rattle.abi.proofs.landfill_take.Tie as tie
+use Rattle.run.specs.declared.answer.Answer.{Answer}
+use Rattle.calls.specs.Calls.{answered, takeHere, takeOut, takeAnswer}
+use Rattle.calls.proofs.Takes.{room-most, part-length, step-is, out-is, image-next, image-stays}
+use Rattle.calls.proofs.take.Statement.{statement}
+use Rattle.calls.proofs.take.Tie as tie
 
 -- the answer of the step, and what it leaves in the output
 abbrev start : tie.After-take → tie.Start
 start c = c .before .before .before .before .before .before .before .before .before
 
 done : (c : tie.After-take) → let s = start c .args in
-    c .take .result ≡ takeHere (now (s .ledger)) (s .«record» .now) (now (s .out)) (now (s .answer))
+    c .take .result ≡ takeHere (now (s .image)) (s .«record» .now) (now (s .out)) (now (s .answer))
 done c =
     let s = start c .args in
     let room = c .before .before .before .before .room in
-    (rw (c .before .before .read .ensures) at (c .take .ensures .0)) ∙ step-is (now (s .ledger)) (s .«record» .now) (now (s .out)) (now (s .answer)) (room .result) (room .ensures)
+    (rw (c .before .before .read .ensures) at (c .take .ensures .0)) ∙ step-is (now (s .image)) (s .«record» .now) (now (s .out)) (now (s .answer)) (room .result) (room .ensures)
 
 written : (c : tie.After-take) → let s = start c .args in
-    c .take .last .1 .1 .0 ++ drop (c .before .before .before .before .room .result) (now (s .out)) ≡ takeOut (now (s .ledger)) (s .«record» .now) (now (s .out)) (now (s .answer))
+    c .take .last .1 .1 .0 ++ drop (c .before .before .before .before .room .result) (now (s .out)) ≡ takeOut (now (s .image)) (s .«record» .now) (now (s .out)) (now (s .answer))
 written c =
     let s = start c .args in
     let room = c .before .before .before .before .room in
-    out-is (now (s .ledger)) (s .«record» .now) (now (s .out)) (now (s .answer)) (room .result) (room .ensures) (rw (c .before .before .read .ensures) at (c .take .ensures .1))
+    out-is (now (s .image)) (s .«record» .now) (now (s .out)) (now (s .answer)) (room .result) (room .ensures) (rw (c .before .before .read .ensures) at (c .take .ensures .1))
 
 -- the answer that is left
 said : (c : tie.After-write-answer) → let s = start (c .before .before .before .before) .args in
-    c .write-answer .last .0 ≡ takeAnswer (now (s .ledger)) (s .«record» .now) (now (s .out)) (now (s .answer))
+    c .write-answer .last .0 ≡ takeAnswer (now (s .image)) (s .«record» .now) (now (s .out)) (now (s .answer))
 unfolding takeAnswer
 said c =
     let step = c .before .before .before .before in
@@ -46,7 +46,7 @@ returns c =
     let none = sym (ap (λ (a : Answer). a .refusal) (done step)) ∙ c .before .before .before .before .before .if1 .taken in (
       ap (λ (a : Answer). a .refusal) (done step),
       (
-        c .before .before .write .ensures ∙ rw (done step) (image-next (now (s .ledger)) (s .«record» .now) (now (s .out)) (now (s .answer)) (room .result) (room .ensures) none),
+        c .before .before .write .ensures ∙ rw (done step) (image-next (now (s .image)) (s .«record» .now) (now (s .out)) (now (s .answer)) (room .result) (room .ensures) none),
         (written step, said answer),
       ),
     )
@@ -58,16 +58,16 @@ returns-2 c =
     let s = start step .args in (
       ap (λ (a : Answer). a .refusal) (done step),
       (
-        sym (image-stays (now (s .ledger)) (s .«record» .now) (now (s .out)) (now (s .answer)) (λ z. c .if1 .left (ap (λ (a : Answer). a .refusal) (done step) ∙ z))),
+        sym (image-stays (now (s .image)) (s .«record» .now) (now (s .out)) (now (s .answer)) (λ z. c .if1 .left (ap (λ (a : Answer). a .refusal) (done step) ∙ z))),
         (written step, said answer),
       ),
     )
 
-pub landfill-take-spec : {M : Type 1} → statement M
-landfill-take-spec =
+pub take-spec : {M : Type 1} → statement M
+take-spec =
     tie.close
     (tie.spec (λ c κs. search needs) (λ c κs. search needs)
     (λ c. let s = c .before .before .before .before .before .before .before .args in omega (arith, c .before .before .room .ensures, room-most (length (now (s .out))) (length (now (s .answer)))))
-    (λ c. let s = c .before .before .before .before .before .before .before .before .args in let room = c .before .before .before .room in sym (part-length (now (s .ledger)) (s .«record» .now) (now (s .out)) (now (s .answer)) (room .result) (room .ensures)))
+    (λ c. let s = c .before .before .before .before .before .before .before .before .args in let room = c .before .before .before .room in sym (part-length (now (s .image)) (s .«record» .now) (now (s .out)) (now (s .answer)) (room .result) (room .ensures)))
     (λ c κs. search needs) (λ c κs. search needs) (λ c κs. search needs) (λ c. search needs) (λ c. search needs)
     (λ c. search needs) returns (λ c. search needs) (λ c. search needs) (λ c. search needs) returns-2)

@@ -1,0 +1,18 @@
+-- A fresh buffer is the image of a fresh ledger.
+use mathlib.Core.Path.{_≡_, refl, sym}
+use mathlib.Core.List.{List}
+use Prim.Native.Nat.{ℕ}
+use borrow.Author.Tests.{eq-eqb}
+use lib.ListN.{length, replicate}
+use Rattle.ledger.specs.Stock.{fresh}
+use Rattle.image.specs.Image.{imageBytes, imageOf}
+use Rattle.abi.specs.Entries.{freshLeft}
+
+-- The image of a fresh ledger is 136 zeros.
+pub fresh-zeros : imageOf fresh ≡ replicate 136 0
+unfolding imageOf fresh
+fresh-zeros = refl
+
+pub fresh-keeps : (image : List ℕ) → length image ≡ imageBytes → freshLeft image ≡ imageOf fresh
+unfolding freshLeft
+fresh-keeps image e = simp (eq-eqb (length image) imageBytes e) (sym fresh-zeros)
