@@ -1,7 +1,8 @@
 // The other fields of a record, what is allowed in them, and the carbon of a mass.
 ghost use mathlib.Core.Path.{_≡_};
+ghost use lib.Dec.{eqb};
 ghost use Rattle.numbers.specs.Eight.{everyOf};
-ghost use Rattle.record.specs.Fields.{periodOf, kindOf, climateOf, massOf, depositOf};
+ghost use Rattle.record.specs.Fields.{periodOf, kindOf, climateOf, zerosOf, massOf, depositOf};
 ghost use Rattle.record.specs.Ranges.{coded, light};
 use crate::bytes::byte;
 use crate::bytes::four;
@@ -28,11 +29,19 @@ pub fn climate(bytes: &[u8]) -> u8
     byte(bytes, 3)
 }
 
+// Tells whether bytes 12 to 15 are zero: the first is, and their number is too small for any other. So written, it compiles to two
+// comparisons.
+fn is_blank(bytes: &[u8]) -> bool
+    ensures { λ r. ⌜ r ≡ eqb (zerosOf (now (bytes .entry))) 0 ⌝ }
+{
+    (byte(bytes, 12) == 0) & (four(bytes, 12) < 255)
+}
+
 // Tells whether kind, climate and class are codes and bytes 12 to 15 are zero.
 pub fn is_coded(bytes: &[u8]) -> bool
     ensures { λ r. ⌜ r ≡ coded (now (bytes .entry)) ⌝ }
 {
-    let class = waste::is_class(byte(bytes, 8)) & (four(bytes, 12) == 0);
+    let class = waste::is_class(byte(bytes, 8)) & is_blank(bytes);
     let climate = waste::is_climate(climate(bytes)) & class;
     decay::is_kind(kind(bytes)) & climate
 }

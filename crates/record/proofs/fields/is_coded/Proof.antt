@@ -1,20 +1,19 @@
 -- The four tests, one after the other.
 use mathlib.Core.Bool.{and-true}
-use borrow.Author.Needs.{needs}
-use Rattle.record.specs.Fields.{factorsOf, zerosOf}
+use Rattle.record.specs.Fields.{factorsOf}
 use Rattle.record.specs.Ranges.{coded}
 use Rattle.record.proofs.fields.is_coded.Statement.{statement}
 use Rattle.record.proofs.fields.is_coded.Tie as tie
 
 returns : tie.Need-returns
-unfolding coded factorsOf zerosOf
+unfolding coded factorsOf
 returns c =
     simp (
       c .is-kind .ensures,
       c .before .kind .ensures,
       c .before .before .is-climate .ensures,
       c .before .before .before .climate .ensures,
-      c .before .before .before .before .four .ensures,
+      c .before .before .before .before .is-blank .ensures,
       c .before .before .before .before .before .is-class .ensures,
       c .before .before .before .before .before .before .byte .ensures,
       and-true,
@@ -23,5 +22,5 @@ returns c =
 pub is-coded-spec : {M : Type 1} → statement M
 is-coded-spec =
     tie.close
-    (tie.spec (λ c κs. tt) (λ c κs. tt) (λ c κs. search needs) (λ c κs. tt)
+    (tie.spec (λ c κs. tt) (λ c κs. tt) (λ c κs. tt) (λ c κs. tt)
     (λ c κs. tt) (λ c κs. tt) (λ c κs. tt) returns)
