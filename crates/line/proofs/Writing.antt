@@ -42,14 +42,14 @@ set-first (x ∷ xs) l i at b h =
 -- A number written from its last digit on: the digits from place i on stand, and left is what is before them.
 pub record FromBehind (entry : List ℕ) (at n : ℕ) (exit : List ℕ) (i left : ℕ) : Type 0 where
   pub digits : List ℕ
-  pub above : at ≤ i
+  pub not-before : at ≤ i
   pub whole : decimalOf n ≡ lastDigits (i - at) left ++ digits
   pub stands : exit ≡ sets entry i digits
 
 pub no-digit : (l : List ℕ) (at n : ℕ) {i : ℕ} → i ≡ at + length (decimalOf n) → FromBehind l at n l i n
 no-digit l at n {i} e =
     let all : i - at ≡ length (decimalOf n) = omega arith in
-    record { digits = []; above = omega arith; whole = rw all (all-digits n ∙ sym (append-nil (lastDigits (length (decimalOf n)) n))); stands = refl }
+    record { digits = []; not-before = omega arith; whole = rw all (all-digits n ∙ sym (append-nil (lastDigits (length (decimalOf n)) n))); stands = refl }
 
 module _ {l m : List ℕ} {at n i left : ℕ} (h : FromBehind l at n m i left) where
   pub digit-before : at < i → FromBehind l at n (set m (i - 1) (48 + left % 10)) (i - 1) (left / 10)
@@ -61,7 +61,7 @@ module _ {l m : List ℕ} {at n i left : ℕ} (h : FromBehind l at n m i left) w
       let split : lastDigits (i - at) left ≡ lastDigits (i - 1 - at) (left / 10) ++ (digit ∷ []) = rw count in
       record {
         digits = digit ∷ h .digits;
-        above = omega arith;
+        not-before = omega arith;
         whole = h .whole ∙ rw split (append-assoc (lastDigits (i - 1 - at) (left / 10)) (digit ∷ []) (h .digits));
         stands = rw (h .stands, next) (set-first (h .digits) l (i - 1) i digit (omega arith));
       }
@@ -69,7 +69,7 @@ module _ {l m : List ℕ} {at n i left : ℕ} (h : FromBehind l at n m i left) w
   pub all-stand : i ≤ at → Writes l at (decimalOf n) m (at + length (decimalOf n))
   unfolding lastDigits
   all-stand none =
-      let here : i ≡ at = omega (arith, h .above) in
+      let here : i ≡ at = omega (arith, h .not-before) in
       let zero-left : i - at ≡ 0 = omega arith in
       let whole : decimalOf n ≡ h .digits = h .whole ∙ rw zero-left in
       copied l at (decimalOf n) (h .stands ∙ rw (here, ← whole))

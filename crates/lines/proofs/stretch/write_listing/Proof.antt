@@ -9,7 +9,7 @@ use Rattle.ledger.specs.History.{outcomeOf, outOf}
 use Rattle.ledger.specs.declared.answer.Outcome.{Outcome}
 use Rattle.line.specs.Writing.{Writes}
 use Rattle.lines.specs.Listing.{linesOf}
-use Rattle.lines.proofs.MidListing.{goes, ends, MidListing, listing-starts, listing-ends, ran, output-stays, lines-fit, stretch-on}
+use Rattle.lines.proofs.MidListing.{goes, no-more, MidListing, listing-starts, listing-ends, ran, output-stays, lines-fit, stretch-on}
 use Rattle.lines.proofs.stretch.write_listing.Statement.{statement}
 use Rattle.lines.proofs.stretch.write_listing.Tie as tie
 
@@ -71,7 +71,7 @@ returns c =
     let put = c .before .before .put-end .ensures in
     let end = c .before .before .before .before .before in
     let loop = end .before .loop in
-    listing-ends (loop .inv .0) (ends (loop .refusal) (loop .at) (length (end .before .before .before .before .before .args .file .now)) (end .loop-test .left)) (put .0) (put .1)
+    listing-ends (loop .inv .0) (no-more (loop .refusal) (loop .at) (length (end .before .before .before .before .before .args .file .now)) (end .loop-test .left)) (put .0) (put .1)
 
 pub write-listing-spec : {M : Type 1} → statement M
 write-listing-spec =
