@@ -76,7 +76,11 @@ returns c =
 pub write-listing-spec : {M : Type 1} → statement M
 write-listing-spec =
     tie.close
-    (tie.spec Inv-loop μ-loop (λ c κs. search needs)
+    (tie.spec Inv-loop μ-loop (λ c κs. tt)
     (λ c. (rw (c .fresh .ensures) (listing-starts (c .before .before .before .args .file .now) (now (c .before .before .before .args .text)) (c .before .before .before .pre)), refl))
-    (λ c κs. search needs) (λ c. search needs) (λ c. search needs) (λ c. search needs) (λ c. search needs) (λ c κs. search needs) (λ c. search needs)
-    put-lines-requires loop-less loop-again (λ c. search needs) (λ c. search needs) (λ c κs. c .before .before .before .loop .inv .0 .end-room) (λ c. search needs) returns)
+    (λ c κs. c .before .loop .inv .0 .in-file) (λ c. c .stretch-end .ensures .on)
+    (λ c. search needs) (λ c. search needs) (λ c. search needs) (λ c κs. tt) (λ c. search needs)
+    put-lines-requires loop-less loop-again
+    (λ c. omega (arith, c .before .before .before .loop .inv .0 .few)) (λ c. omega (arith, c .before .before .before .loop .inv .0 .few))
+    (λ c κs. c .before .before .before .loop .inv .0 .end-room)
+    (λ c. c .before .before .put-end .ensures .0 .as-many ∙ c .before .before .before .before .before .before .loop .inv .0 .as-long) returns)
