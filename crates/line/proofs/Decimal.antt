@@ -65,6 +65,20 @@ first-digit =
       λ p. rw (more-digits n h, List·getD-append (decimalOf (n / 10)) ((48 + n % 10) ∷ []) 0 0 (rest .0)) (rest .1 (omega arith)),
     )
 
+-- The last k digits of a number; all of them are the number.
+unfoldable pub lastDigits : ℕ → ℕ → List ℕ
+lastDigits zero n = []
+lastDigits (suc k) n = lastDigits k (n / 10) ++ ((48 + n % 10) ∷ [])
+
+pub all-digits : (n : ℕ) → decimalOf n ≡ lastDigits (length (decimalOf n)) n
+unfolding lastDigits
+all-digits =
+    by-digits (λ n. decimalOf n ≡ lastDigits (length (decimalOf n)) n)
+    (λ n h. let same : n % 10 ≡ n = omega arith in rw (one-digit n h) (rw same))
+    λ n h rest.
+    let size : length (decimalOf n) ≡ suc (length (decimalOf (n / 10))) = omega (arith, one-more n h) in
+    rw size (more-digits n h ∙ ap (λ (front : List ℕ). front ++ ((48 + n % 10) ∷ [])) rest)
+
 read-on : (xs ys : List ℕ) (n : ℕ) → readOn n (xs ++ ys) ≡ readOn (readOn n xs) ys
 read-on [] ys n = refl
 read-on (x ∷ xs) ys n = read-on xs ys (10 * n + (x - 48))

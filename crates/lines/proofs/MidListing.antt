@@ -31,8 +31,8 @@ goes refusal at size e = (eqb-true refusal 0 (both (eqb refusal 0) (ltb at size)
     both true q e = (refl, e)
     both false q e = absurd (subst T (sym e) tt)
 
-pub ends : (refusal at size : ℕ) → (eqb refusal 0 && ltb at size) ≡ false → refusal ≡ 0 → size ≤ at
-ends refusal at size e z = ltb-false at size (simp (eq-eqb refusal 0 z) at e)
+pub no-more : (refusal at size : ℕ) → (eqb refusal 0 && ltb at size) ≡ false → refusal ≡ 0 → size ≤ at
+no-more refusal at size e z = ltb-false at size (simp (eq-eqb refusal 0 z) at e)
 
 -- The first 1536 bytes of a file are 32 records, or all of them.
 stretch-records : (file : List ℕ) → recordsOf file ≡ recordsOf (take 1536 file) ++ recordsOf (drop 1536 file)
@@ -92,7 +92,7 @@ whole-text file text₀ {text} {len} enough lists =
     let n : length (listingOf file) ≡ len = ap length (lists .whole) ∙ size in
     let some = le-leb (roomFor file) (length text₀) enough in (
       simp some (rw n),
-      (simp some (rw (n, lists .whole, ← lists .behind) (sym (take-append-drop len text))), (lists .within, sym size)),
+      (simp some (rw (n, lists .whole, ← lists .past) (sym (take-append-drop len text))), (lists .within, sym size)),
     )
 
 -- The run of what is left of a file, with room for every output record.
@@ -109,7 +109,7 @@ pub record MidListing (file text₀ text : List ℕ) (l : Ledger) (at len refusa
   pub in-file : at ≤ length file
   pub room : (k : ℕ) → k ≤ length (recordsOf (drop at file)) → l .n + k ≤ mostRecords + 1 → len + 90 * k ≤ length text
   pub end-room : len + endRoom refusal ≤ length text
-  pub as-many : length text ≡ length text₀
+  pub as-long : length text ≡ length text₀
   pub untouched : drop len text ≡ drop len text₀
   pub so-far : listingOf file ≡ take len text ++ restText refusal l (drop at file)
 
@@ -121,7 +121,7 @@ listing-starts file text enough =
       in-file = omega arith;
       room = λ k h₁ h₂. omega (arith, lines-within k (length (recordsOf file)) h₁ (omega arith));
       end-room = omega arith;
-      as-many = refl;
+      as-long = refl;
       untouched = refl;
       so-far = refl;
     }
@@ -145,7 +145,7 @@ module _ {file text₀ text : List ℕ} {l : Ledger} {at len refusal : ℕ} (h :
       record {
         within = omega (arith, h .end-room, w .as-many);
         whole = h .so-far ∙ rw (rest-ends last) (sym (line-stands w fits));
-        behind = past-line w fits text₀ (h .untouched);
+        past = past-line w fits text₀ (h .untouched);
       }
 
 -- A stretch from where no refusal is.
@@ -244,7 +244,7 @@ module _ {file text₀ text : List ℕ} {l : Ledger} {at len : ℕ} (h : MidList
         in-file = inside;
         room = rw (w .as-many, same) (room-on mid short);
         end-room = rw (w .as-many) (refusal-fits mid short);
-        as-many = w .as-many ∙ h .as-many;
+        as-long = w .as-many ∙ h .as-long;
         untouched = past-line w fits text₀ (h .untouched);
         so-far =
             h .so-far

@@ -39,4 +39,4 @@ pub record Stretch (file : List ℕ) (at end : ℕ) : Type 0 where
 pub record Lists (file text text′ : List ℕ) (end : ℕ) : Type 0 where
   pub within : end ≤ length text′
   pub whole : listingOf file ≡ take end text′
-  pub behind : drop end text′ ≡ drop end text
+  pub past : drop end text′ ≡ drop end text

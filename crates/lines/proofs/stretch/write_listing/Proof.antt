@@ -9,7 +9,7 @@ use Rattle.run.specs.History.{outcomeOf, outOf}
 use Rattle.run.specs.declared.answer.Outcome.{Outcome}
 use Rattle.line.specs.Writing.{Writes}
 use Rattle.lines.specs.Listing.{linesOf}
-use Rattle.lines.proofs.MidListing.{goes, ends, MidListing, listing-starts, listing-ends, ran, output-stays, lines-fit, stretch-on}
+use Rattle.lines.proofs.MidListing.{goes, no-more, MidListing, listing-starts, listing-ends, ran, output-stays, lines-fit, stretch-on}
 use Rattle.lines.proofs.stretch.write_listing.Statement.{statement}
 use Rattle.lines.proofs.stretch.write_listing.Tie as tie
 
@@ -71,12 +71,16 @@ returns c =
     let put = c .before .before .put-end .ensures in
     let end = c .before .before .before .before .before in
     let loop = end .before .loop in
-    listing-ends (loop .inv .0) (ends (loop .refusal) (loop .at) (length (end .before .before .before .before .before .args .file .now)) (end .loop-test .left)) (put .0) (put .1)
+    listing-ends (loop .inv .0) (no-more (loop .refusal) (loop .at) (length (end .before .before .before .before .before .args .file .now)) (end .loop-test .left)) (put .0) (put .1)
 
 pub write-listing-spec : {M : Type 1} → statement M
 write-listing-spec =
     tie.close
-    (tie.spec Inv-loop μ-loop (λ c κs. search needs)
+    (tie.spec Inv-loop μ-loop (λ c κs. tt)
     (λ c. (rw (c .fresh .ensures) (listing-starts (c .before .before .before .args .file .now) (now (c .before .before .before .args .text)) (c .before .before .before .pre)), refl))
-    (λ c κs. search needs) (λ c. search needs) (λ c. search needs) (λ c. search needs) (λ c. search needs) (λ c κs. search needs) (λ c. search needs)
-    put-lines-requires loop-less loop-again (λ c. search needs) (λ c. search needs) (λ c κs. c .before .before .before .loop .inv .0 .end-room) (λ c. search needs) returns)
+    (λ c κs. c .before .loop .inv .0 .in-file) (λ c. c .stretch-end .ensures .on)
+    (λ c. search needs) (λ c. search needs) (λ c. search needs) (λ c κs. tt) (λ c. search needs)
+    put-lines-requires loop-less loop-again
+    (λ c. omega (arith, c .before .before .before .loop .inv .0 .few)) (λ c. omega (arith, c .before .before .before .loop .inv .0 .few))
+    (λ c κs. c .before .before .before .loop .inv .0 .end-room)
+    (λ c. c .before .before .put-end .ensures .0 .as-many ∙ c .before .before .before .before .before .before .loop .inv .0 .as-long) returns)
