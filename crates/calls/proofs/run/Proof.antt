@@ -26,12 +26,12 @@ written c = rw (c .before .before .read .ensures) at (c .run .ensures .1)
 returns : tie.Need-returns
 unfolding runHere outcomeOf
 returns c =
-    let run = c .before .before .before .before .before .before .before .before .before in
+    let run = c .before .before .before .before .before .before .before .before in
     let s = start run .args in
     let count = ap (λ (o : Outcome). o .accepted) (done run) in (
       ap (λ (o : Outcome). o .refusal) (done run),
       (
-        c .before .before .write .ensures ∙ rw (done run) (run-next (now (s .image)) (recordsOf (s .records .now)) (length (now (s .out))) (omega (arith, count, c .before .before .before .before .before .if1 .taken))),
+        c .before .before .write .ensures ∙ rw (done run) (run-next (now (s .image)) (recordsOf (s .records .now)) (length (now (s .out))) (omega (arith, count, c .before .before .before .before .if1 .taken))),
         (written run, count),
       ),
     )

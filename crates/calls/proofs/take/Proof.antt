@@ -39,11 +39,11 @@ said c =
 
 returns : tie.Need-returns
 returns c =
-    let answer = c .before .before .before .before .before .before .before .before .before in
+    let answer = c .before .before .before .before .before .before .before .before in
     let step = answer .before .before .before .before in
     let s = start step .args in
     let room = step .before .before .before .before .room in
-    let none = sym (ap (λ (a : Answer). a .refusal) (done step)) ∙ c .before .before .before .before .before .if1 .taken in (
+    let none = sym (ap (λ (a : Answer). a .refusal) (done step)) ∙ c .before .before .before .before .if1 .taken in (
       ap (λ (a : Answer). a .refusal) (done step),
       (
         c .before .before .write .ensures ∙ rw (done step) (image-next (now (s .image)) (s .«record» .now) (now (s .out)) (now (s .answer)) (room .result) (room .ensures) none),
