@@ -41,8 +41,7 @@ pub fn take(image: &mut [u8], record: &[u8], out: &mut [u8], answer: &mut [u8]) 
     let taken = step::take(image::read(image), record, &mut out[..room]);
     write_answer(answer, taken);
     if taken.refusal == 0 {
-        let after = taken.ledger;
-        image::write(image, after);
+        image::write(image, taken.ledger);
     }
     taken.refusal
 }
@@ -58,8 +57,7 @@ pub fn run(image: &mut [u8], records: &[u8], out: &mut [u8], accepted: &mut u64)
     let end = run::run(image::read(image), records, out);
     *accepted = end.accepted;
     if end.accepted > 0 {
-        let last = end.ledger;
-        image::write(image, last);
+        image::write(image, end.ledger);
     }
     end.refusal
 }

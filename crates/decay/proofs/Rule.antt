@@ -2,7 +2,7 @@
 use mathlib.Core.Path.{_≡_, refl, sym, ap, _∙_}
 use mathlib.Core.Bool.{Bool, true, false, cond, _&&_, and-false}
 use mathlib.Core.List.{List, [], _∷_}
-use Prim.Native.Nat.{ℕ, zero, suc, _+_, _*_, _^_, _≤_, _<_}
+use Prim.Native.Nat.{ℕ, zero, suc, _+_, _-_, _*_, _/_, _^_, _≤_, _<_}
 use native.Mathlib.Nat.{add-zero, add-suc, suc-add, div-eq-of-lt-le}
 use native.Mathlib.Omega.{arith}
 use native.Mathlib.Decide.{ℕ-discrete, decLe}
@@ -10,11 +10,11 @@ use borrow.Author.Tests.{eq-eqb, ne-eqb, le-leb, lt-leb, leb-true}
 use lib.Dec.{T, leb, ltb, eqb, leb→le, ltb→lt}
 use lib.Ieee.Fits.{and-l, and-r}
 use lib.ListN.{length, getD, replicate, List·getD-eq-default}
-use Rattle.numbers.specs.Fraction.{Fraction, over, whole, floor, _⊗_, _≼_, _≺_, total}
+use Rattle.numbers.specs.Fraction.{Fraction, over, whole, _⊗_, _≼_, _≺_, total}
 use Rattle.numbers.proofs.Fraction.{at-most-trans, at-most-below, less-with, times-at-most}
 use Rattle.decay.specs.Series.{factorial, term, E, Encloses, roundedDown, isKind, exponent, entryOf, entriesFrom, tableOf, atRate}
 use Rattle.decay.proofs.Series.{odd-term}
-use Rattle.decay.proofs.Sums.{alike, others, bottom-pos, summed, sum-is}
+use Rattle.decay.proofs.Sums.{alike, bottom-pos, summed, sum-is}
 use Rattle.decay.proofs.Every.{everyFrom, upTo, number-at}
 
 -- 10^9 × E(15), which the rule has from below, is below D + 1 too
@@ -47,57 +47,67 @@ from-above D plus minus den h e = omega arith
 
 -- It is a test of the sums over one denominator, with the bound of an entry.
 module _ (p q : ℕ) (h : 0 < q) where
-  unfoldable pub low? : ℕ → Bool
-  low? D = leb (D * (q ^ 15 * factorial 15) + 10 ^ 9 * alike p q h 15) (10 ^ 9 * others p q h 15)
+  -- of a and b, the terms of E(13) and of E(14) that have the sign of the last one
+  unfoldable pub low? : (D a b : ℕ) → Bool
+  low? D a b = leb (D * (q ^ 15 * factorial 15) + 10 ^ 9 * (a * (q * 14 * (q * 15)) + p ^ 15)) (10 ^ 9 * (b * (q * 15)))
 
-  unfoldable pub high? : ℕ → Bool
-  high? D = ltb (10 ^ 9 * alike p q h 14) ((D + 1) * (q ^ 14 * factorial 14) + 10 ^ 9 * others p q h 14)
+  unfoldable pub high? : (D a b : ℕ) → Bool
+  high? D a b = ltb (10 ^ 9 * b) ((D + 1) * (q ^ 14 * factorial 14) + 10 ^ 9 * (a * (q * 14)))
+
+  unfoldable pub within? : (D a b : ℕ) → Bool
+  within? D a b = low? D a b && high? D a b && ltb D (10 ^ 9)
 
   unfoldable pub encloses? : ℕ → Bool
-  encloses? D = low? D && high? D && ltb D (10 ^ 9)
+  encloses? D = within? D (alike p q h 13) (alike p q h 14)
 
   pub record Entry (D : ℕ) : Type 0 where
     pub rule : Encloses (over p q h) D
     pub small : D < 10 ^ 9
 
   meets : (D : ℕ) → T (encloses? D) → Entry D
-  unfolding encloses? low? high?
+  unfolding encloses? within? low? high?
   meets D ok =
       let x = over p q h in
-      let rule = and-l (low? D && high? D) (ltb D (10 ^ 9)) ok in
+      let a = alike p q h 13 in
+      let b = alike p q h 14 in
+      let rule = and-l (low? D a b && high? D a b) (ltb D (10 ^ 9)) ok in
       record {
         rule = record {
           low = at-most-trans (whole D) (whole (10 ^ 9) ⊗ summed p q h 15) (whole (10 ^ 9) ⊗ E x 15)
-              (from-below D _ _ _ (bottom-pos p q h 15) (leb→le _ _ (and-l (low? D) (high? D) rule)))
+              (from-below D _ _ _ (bottom-pos p q h 15) (leb→le _ _ (and-l (low? D a b) (high? D a b) rule)))
               (times-at-most (summed p q h 15) (E x 15) (10 ^ 9) (omega (arith, sum-is p q h 15)));
           high = at-most-below (whole (10 ^ 9) ⊗ E x 14) (whole (10 ^ 9) ⊗ summed p q h 14) (whole (D + 1))
               (times-at-most (E x 14) (summed p q h 14) (10 ^ 9) (omega (arith, sum-is p q h 14)))
-              (from-above D _ _ _ (bottom-pos p q h 14) (ltb→lt _ _ (and-r (low? D) (high? D) rule)));
+              (from-above D _ _ _ (bottom-pos p q h 14) (ltb→lt _ _ (and-r (low? D a b) (high? D a b) rule)));
         };
-        small = ltb→lt _ _ (and-r (low? D && high? D) (ltb D (10 ^ 9)) ok);
+        small = ltb→lt _ _ (and-r (low? D a b && high? D a b) (ltb D (10 ^ 9)) ok);
       }
 
-  summed-down : ℕ
-  summed-down = floor (whole (10 ^ 9) ⊗ summed p q h 15)
+  here : (D : ℕ) → T (encloses? D) → Entry (roundedDown (over p q h))
+  here D ok = let e = meets D ok in rw (is-rounded-down p q h D (e .rule)) at e
 
-  here : T (encloses? summed-down) → Entry (roundedDown (over p q h))
-  here ok = let e = meets summed-down ok in rw (is-rounded-down p q h summed-down (e .rule)) at e
+  -- 10^9 × E(15) rounded down, and whether it is an entry
+  down : (a b : ℕ) → ℕ
+  down a b = (10 ^ 9 * (b * (q * 15)) - 10 ^ 9 * (a * (q * 14 * (q * 15)) + p ^ 15)) / (q ^ 15 * factorial 15)
+
+  down? : (a b : ℕ) → Bool
+  down? a b = within? (down a b) a b
 
 -- Every rate of a kind, by one test; d is the denominator of the kind.
 module _ (d : ℕ) (h : 0 < d) where
   rate? : ℕ → Bool
-  rate? r = encloses? r d h (summed-down r d h)
+  rate? r = down? r d h (alike r d h 13) (alike r d h 14)
 
   every-rate : T (upTo rate? 400) → (r : ℕ) → 1 ≤ r → r ≤ 400 → Entry r d h (roundedDown (over r d h))
-  unfolding rate?
-  every-rate ok r low high = here r d h (number-at rate? 400 ok r low high)
+  unfolding rate? down? encloses?
+  every-rate ok r low high = here r d h (down r d h (alike r d h 13) (alike r d h 14)) (number-at rate? 400 ok r low high)
 
 yearly : (r : ℕ) → 1 ≤ r → r ≤ 400 → Entry r 1000 (omega arith) (roundedDown (over r 1000 (omega arith)))
-unfolding rate? summed-down encloses? low? high? factorial
+unfolding rate? down down? within? low? high? factorial
 yearly = every-rate 1000 (omega arith) tt
 
 monthly : (r : ℕ) → 1 ≤ r → r ≤ 400 → Entry r 12000 (omega arith) (roundedDown (over r 12000 (omega arith)))
-unfolding rate? summed-down encloses? low? high? factorial
+unfolding rate? down down? within? low? high? factorial
 monthly = every-rate 12000 (omega arith) tt
 
 -- What is known of every entry, once over the kind.

@@ -1,5 +1,5 @@
 -- The run decides; where it accepts nothing the image stays.
-use mathlib.Core.Path.{_≡_, sym, ap, _∙_}
+use mathlib.Core.Path.{_≡_, refl, sym, ap, _∙_}
 use native.Mathlib.Omega.{arith}
 use borrow.Author.Needs.{needs}
 use denote.Ref.{now}
@@ -26,12 +26,12 @@ written c = rw (c .before .before .read .ensures) at (c .run .ensures .1)
 returns : tie.Need-returns
 unfolding runHere outcomeOf
 returns c =
-    let run = c .before .before .before .before .before .before .before .before .before in
+    let run = c .before .before .before .before .before .before .before .before in
     let s = start run .args in
     let count = ap (λ (o : Outcome). o .accepted) (done run) in (
       ap (λ (o : Outcome). o .refusal) (done run),
       (
-        c .before .before .write .ensures ∙ rw (done run) (run-next (now (s .image)) (recordsOf (s .records .now)) (length (now (s .out))) (omega (arith, count, c .before .before .before .before .before .if1 .taken))),
+        c .before .before .write .ensures ∙ rw (done run) (run-next (now (s .image)) (recordsOf (s .records .now)) (length (now (s .out))) (omega (arith, count, c .before .before .before .before .if1 .taken))),
         (written run, count),
       ),
     )
@@ -49,5 +49,6 @@ returns-2 c =
 pub run-spec : {M : Type 1} → statement M
 run-spec =
     tie.close
-    (tie.spec (λ c κs. search needs) (λ c κs. search needs) (λ c κs. search needs) (λ c. search needs) (λ c. search needs)
-    returns (λ c. search needs) (λ c. search needs) returns-2)
+    (tie.spec (λ c κs. tt) (λ c κs. tt) (λ c κs. tt) (λ c. c .before .before .write .kept .0)
+    (λ c. c .before .before .before .before .before .before .before .before .run .kept .1 .1 .0) returns (λ c. refl)
+    (λ c. c .before .before .before .before .run .kept .1 .1 .0) returns-2)

@@ -1,5 +1,5 @@
 -- The step on the part that is lent decides; the answer and the image follow it.
-use mathlib.Core.Path.{_≡_, sym, ap, _∙_}
+use mathlib.Core.Path.{_≡_, refl, sym, ap, _∙_}
 use mathlib.Core.List.{_++_}
 use native.Mathlib.Omega.{arith}
 use borrow.Author.Needs.{needs}
@@ -39,11 +39,11 @@ said c =
 
 returns : tie.Need-returns
 returns c =
-    let answer = c .before .before .before .before .before .before .before .before .before in
+    let answer = c .before .before .before .before .before .before .before .before in
     let step = answer .before .before .before .before in
     let s = start step .args in
     let room = step .before .before .before .before .room in
-    let none = sym (ap (λ (a : Answer). a .refusal) (done step)) ∙ c .before .before .before .before .before .if1 .taken in (
+    let none = sym (ap (λ (a : Answer). a .refusal) (done step)) ∙ c .before .before .before .before .if1 .taken in (
       ap (λ (a : Answer). a .refusal) (done step),
       (
         c .before .before .write .ensures ∙ rw (done step) (image-next (now (s .image)) (s .«record» .now) (now (s .out)) (now (s .answer)) (room .result) (room .ensures) none),
@@ -66,8 +66,9 @@ returns-2 c =
 pub take-spec : {M : Type 1} → statement M
 take-spec =
     tie.close
-    (tie.spec (λ c κs. search needs) (λ c κs. search needs)
+    (tie.spec (λ c κs. tt) (λ c κs. tt)
     (λ c. let s = c .before .before .before .before .before .before .before .args in omega (arith, c .before .before .room .ensures, room-most (length (now (s .out))) (length (now (s .answer)))))
     (λ c. let s = c .before .before .before .before .before .before .before .before .args in let room = c .before .before .before .room in sym (part-length (now (s .image)) (s .«record» .now) (now (s .out)) (now (s .answer)) (room .result) (room .ensures)))
-    (λ c κs. search needs) (λ c κs. search needs) (λ c κs. search needs) (λ c. search needs) (λ c. search needs)
-    (λ c. search needs) returns (λ c. search needs) (λ c. search needs) (λ c. search needs) returns-2)
+    (λ c κs. tt) (λ c κs. tt) (λ c κs. tt) (λ c. c .before .before .write .kept .0) (λ c. search needs)
+    (λ c. c .before .before .before .before .before .before .before .before .write-answer .kept .0) returns (λ c. refl) (λ c. search needs)
+    (λ c. c .before .before .before .before .write-answer .kept .0) returns-2)

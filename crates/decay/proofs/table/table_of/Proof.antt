@@ -2,12 +2,12 @@
 use mathlib.Core.Path.{refl, sym, ap, _∙_}
 use borrow.Author.Tests.{ne-eqb}
 use Rattle.decay.specs.Series.{factorial, tableOf}
-use Rattle.decay.proofs.Rule.{low?, high?, encloses?, yearly-table, monthly-table, no-table}
+use Rattle.decay.proofs.Rule.{low?, high?, within?, encloses?, yearly-table, monthly-table, no-table}
 use Rattle.decay.proofs.table.table_of.Statement.{statement}
 use Rattle.decay.proofs.table.table_of.Tie as tie
 
 pub table-of-spec : {M : Type 1} → statement M
-unfolding encloses? low? high? factorial
+unfolding encloses? within? low? high? factorial
 table-of-spec =
     tie.close
     (tie.spec (λ c. yearly-table _ tt refl ∙ ap tableOf (sym (c .if1 .taken)))
