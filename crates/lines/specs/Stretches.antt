@@ -7,11 +7,7 @@ use lib.Dec.{eqb}
 use lib.ListN.{length, take, drop}
 use Rattle.numbers.specs.Bytes.{numberAt}
 use Rattle.record.specs.Fields.{recordBytes}
-use Rattle.stock.specs.Stock.{mostRecords}
-use Rattle.run.specs.History.{recordsOf, Run, runOf}
-use Rattle.ledger.specs.declared.book.Ledger.{Ledger}
 use Rattle.line.specs.Line.{acceptedText}
-use Rattle.line.specs.Writing.{Writes}
 use Rattle.lines.specs.Listing.{listingOf}
 
 -- The line that the output record at a place says, and the lines of the first k output records.

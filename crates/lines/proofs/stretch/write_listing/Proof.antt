@@ -1,14 +1,11 @@
 -- `MidListing` holds at the head of the loop; each stretch and the end is a law of it.
-use mathlib.Core.Path.{_≡_, refl, sym, ap, _∙_}
-use Prim.Native.Nat.{_+_, _-_, _*_, _≤_}
+use mathlib.Core.Path.{_≡_, refl, _∙_}
+use Prim.Native.Nat.{_-_}
 use native.Mathlib.Omega.{arith}
 use borrow.Author.Needs.{needs}
 use denote.Ref.{now}
-use lib.ListN.{length, take}
+use lib.ListN.{length}
 use Rattle.run.specs.History.{outcomeOf, outOf}
-use Rattle.run.specs.declared.answer.Outcome.{Outcome}
-use Rattle.line.specs.Writing.{Writes}
-use Rattle.lines.specs.Listing.{linesOf}
 use Rattle.lines.proofs.MidListing.{goes, no-more, MidListing, listing-starts, listing-ends, ran, output-stays, lines-fit, stretch-on}
 use Rattle.lines.proofs.stretch.write_listing.Statement.{statement}
 use Rattle.lines.proofs.stretch.write_listing.Tie as tie

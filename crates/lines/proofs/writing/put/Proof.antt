@@ -1,6 +1,4 @@
 -- The bytes of the line's text are copied, and there are len of them.
-use mathlib.Core.Path.{_≡_}
-use Prim.Native.Nat.{_+_}
 use native.Mathlib.Omega.{arith}
 use borrow.Author.Needs.{needs}
 use lib.ListN.{take}

@@ -1,6 +1,5 @@
 -- No line for 0; for a refusal its own.
-use mathlib.Core.Path.{_≡_, refl}
-use Prim.Native.Nat.{_+_, _≤_}
+use mathlib.Core.Path.{refl}
 use native.Mathlib.Omega.{arith}
 use borrow.Author.Needs.{needs}
 use borrow.Author.Tests.{eq-eqb, ne-eqb}
