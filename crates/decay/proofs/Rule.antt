@@ -1,13 +1,13 @@
 -- The rule leaves one answer, which is 10^9 × E(15) rounded down; and it has that answer at every rate of both kinds, by one test each.
 use mathlib.Core.Path.{_≡_, refl, sym, ap, _∙_}
-use mathlib.Core.Bool.{Bool, true, false, cond, _&&_, and-false}
+use mathlib.Core.Bool.{Bool, true, false, _&&_, and-false}
 use mathlib.Core.List.{List, [], _∷_}
 use Prim.Native.Nat.{ℕ, zero, suc, _+_, _-_, _*_, _/_, _^_, _≤_, _<_}
 use native.Mathlib.Nat.{add-zero, add-suc, suc-add, div-eq-of-lt-le}
 use native.Mathlib.Omega.{arith}
 use native.Mathlib.Decide.{ℕ-discrete, decLe}
 use borrow.Author.Tests.{eq-eqb, ne-eqb, le-leb, lt-leb, leb-true}
-use lib.Dec.{T, leb, ltb, eqb, leb→le, ltb→lt}
+use lib.Dec.{T, leb, ltb, leb→le, ltb→lt}
 use lib.Ieee.Fits.{and-l, and-r}
 use lib.ListN.{length, getD, replicate, List·getD-eq-default}
 use Rattle.numbers.specs.Fraction.{Fraction, over, whole, _⊗_, _≼_, _≺_, total}

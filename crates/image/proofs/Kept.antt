@@ -1,11 +1,13 @@
 -- The image of a ledger that can be kept says that ledger again; every ledger that the library answers to one can be kept.
-use mathlib.Core.Path.{_≡_, refl, sym}
+use mathlib.Core.Path.{_≡_, refl, sym, _∙_}
 use mathlib.Core.Bool.{Bool, true, false}
 use mathlib.Core.List.{List, [], _∷_}
 use Prim.Native.Nat.{ℕ, _-_, _^_, _<_}
 use native.Mathlib.Decide.{ℕ-discrete}
 use native.Mathlib.Omega.{arith}
 use lib.Dec.{lit<}
+use Rattle.numbers.specs.Bytes.{numberAt, bytesOf}
+use Rattle.numbers.specs.Eight.{eight}
 use Rattle.numbers.proofs.Bytes.{read-back}
 use Rattle.record.specs.Fields.{recordBytes}
 use Rattle.ledger.specs.Stock.{fresh, broughtAt, stockAt}
@@ -21,6 +23,19 @@ use Rattle.run.proofs.Take.{taken, refused-keeps}
 use Rattle.run.proofs.History.{run-goes-on, run-stops, run-ends}
 use Rattle.image.specs.Image.{imageOf, saidBy, isImage, noLedger, ledgerOf, Kept}
 
+-- Eight numbers are read back from their bytes.
+row-back : (f : ℕ → ℕ) → ((t : ℕ) → t < 8 → f t < 2 ^ 64) → eight (λ t. numberAt 8 (bytesOf 8 (f t)) 0) ≡ eight f
+row-back f fits = λ i.
+    read-back 8 (f 0) (fits 0 (lit< tt)) i
+    ∷ read-back 8 (f 1) (fits 1 (lit< tt)) i
+    ∷ read-back 8 (f 2) (fits 2 (lit< tt)) i
+    ∷ read-back 8 (f 3) (fits 3 (lit< tt)) i
+    ∷ read-back 8 (f 4) (fits 4 (lit< tt)) i
+    ∷ read-back 8 (f 5) (fits 5 (lit< tt)) i
+    ∷ read-back 8 (f 6) (fits 6 (lit< tt)) i
+    ∷ read-back 8 (f 7) (fits 7 (lit< tt)) i
+    ∷ []
+
 module _ (l : Ledger) (k : Kept l) where
   n-fits : l .n < 2 ^ 16
   n-fits = omega (arith, sound-is l (k .is-sound) .few)
@@ -33,27 +48,13 @@ module _ (l : Ledger) (k : Kept l) where
 
   said-again : saidBy (imageOf l) ≡ l
   unfolding imageOf saidBy
-  said-again =
-      rw (
-        read-back 2 (l .n) n-fits,
-        read-back 8 (broughtAt l 0) (T-fits 0 (lit< tt)),
-        read-back 8 (broughtAt l 1) (T-fits 1 (lit< tt)),
-        read-back 8 (broughtAt l 2) (T-fits 2 (lit< tt)),
-        read-back 8 (broughtAt l 3) (T-fits 3 (lit< tt)),
-        read-back 8 (broughtAt l 4) (T-fits 4 (lit< tt)),
-        read-back 8 (broughtAt l 5) (T-fits 5 (lit< tt)),
-        read-back 8 (broughtAt l 6) (T-fits 6 (lit< tt)),
-        read-back 8 (broughtAt l 7) (T-fits 7 (lit< tt)),
-        read-back 8 (stockAt l 0) (R-fits 0 (lit< tt)),
-        read-back 8 (stockAt l 1) (R-fits 1 (lit< tt)),
-        read-back 8 (stockAt l 2) (R-fits 2 (lit< tt)),
-        read-back 8 (stockAt l 3) (R-fits 3 (lit< tt)),
-        read-back 8 (stockAt l 4) (R-fits 4 (lit< tt)),
-        read-back 8 (stockAt l 5) (R-fits 5 (lit< tt)),
-        read-back 8 (stockAt l 6) (R-fits 6 (lit< tt)),
-        read-back 8 (stockAt l 7) (R-fits 7 (lit< tt)),
-      )
-      (λ i. record { n = l .n; kind = l .kind; climate = l .climate; brought = sym (k .brought) i; stock = sym (k .stock) i })
+  said-again = λ i. record {
+    n = read-back 2 (l .n) n-fits i;
+    kind = l .kind;
+    climate = l .climate;
+    brought = (row-back (broughtAt l) T-fits ∙ sym (k .brought)) i;
+    stock = (row-back (stockAt l) R-fits ∙ sym (k .stock)) i;
+  }
 
   image-is-one : isImage (imageOf l) ≡ true
   unfolding isImage imageOf

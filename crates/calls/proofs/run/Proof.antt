@@ -1,7 +1,6 @@
 -- The run decides; where it accepts nothing the image stays.
 use mathlib.Core.Path.{_≡_, refl, sym, ap, _∙_}
 use native.Mathlib.Omega.{arith}
-use borrow.Author.Needs.{needs}
 use denote.Ref.{now}
 use lib.ListN.{length}
 use Rattle.run.specs.History.{recordsOf, outcomeOf, outOf}
