@@ -1,16 +1,19 @@
 -- Where a run stands at the head of its loop, and how a turn and each end go from there.
 use mathlib.Core.Path.{_≡_, refl, sym, ap, _∙_}
-use mathlib.Core.Bool.{Bool}
+use mathlib.Core.Bool.{Bool, true, false, cond}
 use mathlib.Core.List.{List, [], _∷_, _++_, append-assoc, append-nil}
-use Prim.Native.Nat.{ℕ, _+_, _-_, _*_, _≤_, _<_}
+use Prim.Native.Nat.{ℕ, _+_, _-_, _*_, _/_, _≤_, _<_}
+use native.Mathlib.Decide.{ℕ-discrete}
 use native.Mathlib.Omega.{arith}
-use borrow.Author.Tests.{ne-eqb}
+use borrow.Author.Tests.{eq-eqb, ne-eqb, lt-ltb, ltb-true, ltb-false}
+use lib.Dec.{ltb}
 use lib.ListN.{length, take, drop, length-drop, length-append, length-take, take-append-drop, drop-of-length-le}
-use lib.Seq.{length-take-le, take-at, drop-at, drop-drop, take-all}
+use lib.Seq.{length-take-le, take-at, drop-at, drop-drop}
 use Rattle.record.specs.Fields.{recordBytes}
 use Rattle.run.specs.Period.{after, Fit}
 use Rattle.ledger.specs.Refusal.{sound, faultsOf, refusalOf}
 use Rattle.run.specs.Take.{acceptedOf, outputRecord, writtenOf}
+use Rattle.run.specs.Whole.{wholeOf, leftOver}
 use Rattle.run.specs.History.{Turn, outputs, recordsOf, runOf, outcomeOf, outOf}
 use Rattle.ledger.specs.declared.book.Ledger.{Ledger}
 use Rattle.ledger.proofs.Accepted.{accepted, was-sound, has-room, room-alike}
@@ -55,27 +58,41 @@ next-fit l bytes next entries ok fit ok′ =
     let same = accepted (after l bytes) next 48 ok′ .same (λ z. omega arith) in
     fit ok ∙ rw (same .0, same .1)
 
--- the whole of what is lent from a place on, and what stands behind it
-lent : (out : List ℕ) (at : ℕ) → (take (length out - at) (drop at out) ≡ drop at out) × (drop (length out - at) (drop at out) ≡ [])
-lent out at =
-    (take-all (length out - at) (drop at out) (simp length-drop (omega arith)), drop-of-length-le (drop at out) {i = length out - at} (simp length-drop (omega arith)))
+-- 48 bytes of the output, lent to a record that is taken there, or to one that is refused
+pub lent : (out : List ℕ) (at : ℕ) → at + recordBytes ≤ length out → length (take recordBytes (drop at out)) ≡ recordBytes
+lent out at enough = length-take-le recordBytes (drop at out) (simp length-drop (omega arith))
 
-pub lent-length : (out : List ℕ) (at : ℕ) → length (take (length out - at) (drop at out)) ≡ length out - at
-lent-length out at = length-take-le (length out - at) (drop at out) (simp length-drop (omega arith))
+module _ (l : Ledger) (bytes out : List ℕ) (at : ℕ) {ys : List ℕ} (e : ys ≡ writtenOf l bytes (take recordBytes (drop at out))) (enough : at + recordBytes ≤ length out) where
+  abbrev back : List ℕ
+  back = take at out ++ (ys ++ drop recordBytes (drop at out))
 
--- what comes back from lending the output from a place on to a record that is taken there, and to one that is refused
-module _ (l : Ledger) (bytes out : List ℕ) (at : ℕ) {ys : List ℕ} (e : ys ≡ writtenOf l bytes (take (length out - at) (drop at out))) where
-  abbrev pub back : List ℕ
-  back = take at out ++ (ys ++ drop (length out - at) (drop at out))
-
-  pub back-taken : refusalOf l bytes (length out - at) ≡ 0 → back ≡ take at out ++ (outputRecord (acceptedOf l bytes) ++ drop recordBytes (drop at out))
+  pub back-taken : refusalOf l bytes recordBytes ≡ 0 → back ≡ take at out ++ (outputRecord (acceptedOf l bytes) ++ drop recordBytes (drop at out))
   unfolding writtenOf
-  back-taken ok = rw (e, lent-length out at, lent out at .1, ok, lent out at .0, append-nil)
+  back-taken ok = rw (e, lent out at enough, ok, drop-of-length-le (take recordBytes (drop at out)) {i = recordBytes} (omega (arith, lent out at enough)), append-nil)
 
-  pub back-refused : (refusalOf l bytes (length out - at) ≡ 0 → ⊥) → back ≡ out
+  pub back-refused : (refusalOf l bytes recordBytes ≡ 0 → ⊥) → back ≡ out
   back-refused some =
-      rw (e, lent out at .1, append-nil, refused-writes-nothing l bytes (take (length out - at) (drop at out)) (rw (lent-length out at) some), lent out at .0)
+      rw (e, refused-writes-nothing l bytes (take recordBytes (drop at out)) (rw (lent out at enough) some), take-append-drop recordBytes (drop at out))
       (take-append-drop at out)
+
+-- how far the records go that are whole and have room
+within : (records room : ℕ) (test : Bool) → ltb records room ≡ test
+    → (cond test records room / recordBytes * recordBytes ≤ records) × (cond test records room / recordBytes * recordBytes ≤ room)
+within records room true e = (omega arith, omega (arith, ltb-true records room e))
+within records room false e = (omega (arith, ltb-false records room e), omega arith)
+
+module _ (records room : ℕ) where
+  pub whole-within : (wholeOf records room ≤ records) × (wholeOf records room ≤ room)
+  unfolding wholeOf
+  whole-within = within records room (ltb records room) refl
+
+  pub next-within : (at k : ℕ) → at ≡ recordBytes * k → at < wholeOf records room → at + recordBytes ≤ wholeOf records room
+  unfolding wholeOf
+  next-within at k e h = omega arith
+
+full-room : (records room : ℕ) {at : ℕ} (test : Bool) → at ≡ cond test records room / recordBytes * recordBytes → recordBytes ≤ records - at → room - at < recordBytes
+full-room records room true e h = absurd (omega arith)
+full-room records room false e h = omega arith
 
 module _ {l₀ : Ledger} {file out₀ entries : List ℕ} {good : Bool} {out : List ℕ} {l : Ledger} {at : ℕ}
     (h : MidRun l₀ file out₀ entries good out l at) where
@@ -111,12 +128,32 @@ module _ {l₀ : Ledger} {file out₀ entries : List ℕ} {good : Bool} {out : L
       (rw (first-record (drop at file) (simp length-drop (omega arith)))
       (run-stops l here (recordsOf (drop 48 (drop at file))) room q e ne))
 
-  -- bytes left over that make no record
-  pub at-short : at < length file → length file - at < recordBytes → Ends 1
+  -- bytes left over that make no record, or one without room
+  at-short : at < length file → length file - at < recordBytes → Ends 1
   unfolding refusalOf faultsOf
   at-short left short =
       at-refusal 1 left
       (simp (ne-eqb (length here) recordBytes (λ e. omega (arith, length-take 48 (drop at file), length-drop at file)))) (omega arith)
+
+  at-full : recordBytes ≤ length file - at → room < recordBytes → Ends 2
+  unfolding refusalOf faultsOf
+  at-full whole none =
+      at-refusal 2 (omega arith)
+      (simp (eq-eqb (length here) recordBytes (length-take-le 48 (drop at file) (simp length-drop (omega arith))), lt-ltb room recordBytes none)) (omega arith)
+
+  -- behind the records that are whole and have room
+  no-more : (test : Bool) → ltb (length file - at) recordBytes ≡ test → (length file - at ≡ 0 → ⊥) → (recordBytes ≤ length file - at → room < recordBytes)
+      → Ends (cond test 1 2)
+  no-more true e some full = at-short (omega (arith, some)) (ltb-true (length file - at) recordBytes e)
+  no-more false e some full = let long = ltb-false (length file - at) recordBytes e in at-full long (full long)
+
+  pub at-last : at ≡ wholeOf (length file) (length out) → Ends (leftOver (length file - at))
+  unfolding leftOver wholeOf
+  at-last e =
+      elim (ℕ-discrete (length file - at) 0) [
+        | yes z ↦ simp (eq-eqb (length file - at) 0 z) (at-end z)
+        | no z ↦ simp (ne-eqb (length file - at) 0 z) (no-more (ltb (length file - at) recordBytes) refl z (full-room (length file) (length out) (ltb (length file) (length out)) e))
+      ]
 
   -- an accepted record
   pub turn-on : (out′ : List ℕ) → at < length file → refusalOf l here room ≡ 0

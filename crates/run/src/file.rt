@@ -4,6 +4,7 @@ ghost use Prim.Native.Nat.{_-_, _≤_};
 ghost use lib.ListN.{length, take};
 ghost use Rattle.run.specs.Period.{Fit};
 ghost use Rattle.run.specs.History.{recordsOf, runOf, outcomeOf, outOf};
+ghost use Rattle.run.specs.Whole.{wholeOf, leftOver};
 use crate::answer::Outcome;
 use crate::entry::offer;
 use ledger::Ledger;
@@ -30,6 +31,29 @@ fn ended(first: u16, ledger: Ledger, refusal: u8) -> Outcome
     }
 }
 
+// Answers how many bytes of so many the records take that are whole and have room for their output records.
+fn whole(records: usize, room: usize) -> usize
+    ensures { λ r. ⌜ r ≡ wholeOf records room ⌝ }
+{
+    if records < room {
+        return records / Ledger::BYTES * Ledger::BYTES;
+    }
+    room / Ledger::BYTES * Ledger::BYTES
+}
+
+// Answers the refusal of what is left of a file behind them: no whole record (1), or no room for it (2).
+fn left_over(bytes: usize) -> u8
+    ensures { λ r. ⌜ r ≡ leftOver bytes ⌝ }
+{
+    if bytes == 0 {
+        return 0;
+    }
+    if bytes < Ledger::BYTES {
+        return 1;
+    }
+    2
+}
+
 // Takes the records of a file one after another, writes the output record of each accepted one behind the last, and stops at
 // the first that is refused; bytes left over that make no record are refused with 1.
 pub fn run(ledger: Ledger, records: &[u8], out: &mut [u8]) -> Outcome
@@ -38,21 +62,25 @@ pub fn run(ledger: Ledger, records: &[u8], out: &mut [u8]) -> Outcome
 {
     let good = ledger.is_sound();
     let entries = run_entries(ledger, records);
+    let end = whole(records.len(), out.len());
     let first = ledger.n;
     let mut ledger = ledger;
     let mut at: usize = 0;
-    while at < records.len() {
-        if records.len() - at < Ledger::BYTES {
-            return ended(first, ledger, 1);
-        }
-        let bytes = &records[at..at + Ledger::BYTES];
-        let entered = offer(ledger, good, entries, bytes, &mut out[at..]);
+    while at < end {
+        let next = at + Ledger::BYTES;
+        let entered = offer(
+            ledger,
+            good,
+            entries,
+            &records[at..next],
+            &mut out[at..next],
+        );
         if entered.refusal != 0 {
             return ended(first, ledger, entered.refusal);
         }
-        let next = entered.ledger;
-        ledger = next;
-        at += Ledger::BYTES;
+        let after = entered.ledger;
+        ledger = after;
+        at = next;
     }
-    ended(first, ledger, 0)
+    ended(first, ledger, left_over(records.len() - at))
 }
