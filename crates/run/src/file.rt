@@ -78,8 +78,7 @@ pub fn run(ledger: Ledger, records: &[u8], out: &mut [u8]) -> Outcome
         if entered.refusal != 0 {
             return ended(first, ledger, entered.refusal);
         }
-        let after = entered.ledger;
-        ledger = after;
+        ledger = entered.ledger;
         at = next;
     }
     ended(first, ledger, left_over(records.len() - at))
