@@ -17,7 +17,7 @@ use Rattle.ledger.specs.Refusal.{sound}
 use Rattle.run.specs.Take.{acceptedOf}
 use Rattle.ledger.specs.declared.book.Ledger.{Ledger}
 use Rattle.ledger.proofs.Accepted.{Accepted}
-use Rattle.ledger.proofs.Sound.{sound-is, is-sound}
+use Rattle.ledger.proofs.Sound.{sound-is, sound-by}
 
 module _ (l : Ledger) (bytes : List ℕ) (a : Accepted l bytes) (t : ℕ) (h : t < 8) where
   pub new-kept : newStock l bytes t ≤ newBrought l bytes t
@@ -51,7 +51,7 @@ no-carbon l bytes a =
 pub stays-sound : (l : Ledger) (bytes : List ℕ) → Accepted l bytes → sound (after l bytes) ≡ true
 unfolding after
 stays-sound l bytes a =
-    is-sound (after l bytes) (omega (arith, a .more)) (λ z. omega arith) (simp (a .kind, a .climate))
+    sound-by (after l bytes) (omega (arith, a .more)) (λ z. omega arith) (simp (a .kind, a .climate))
     (λ t h. rw (eight-at (newBrought l bytes) t h, eight-at (newStock l bytes) t h) (new-kept l bytes a t h, new-within l bytes a t h))
 
 -- The ledger of an accepted answer is sound.

@@ -13,7 +13,7 @@ use Rattle.record.specs.Fields.{recordBytes}
 use Rattle.run.specs.Period.{after, Fit}
 use Rattle.ledger.specs.Refusal.{sound, faultsOf, refusalOf}
 use Rattle.run.specs.Take.{acceptedOf, outputRecord, writtenOf}
-use Rattle.run.specs.Whole.{wholeOf, leftOver}
+use Rattle.run.specs.Reach.{reachOf, leftOver}
 use Rattle.run.specs.History.{Turn, outputs, recordsOf, runOf, outcomeOf, outOf}
 use Rattle.ledger.specs.declared.book.Ledger.{Ledger}
 use Rattle.ledger.proofs.Accepted.{accepted, was-sound, has-room, room-alike}
@@ -82,12 +82,12 @@ within records room true e = (omega arith, omega (arith, ltb-true records room e
 within records room false e = (omega (arith, ltb-false records room e), omega arith)
 
 module _ (records room : ℕ) where
-  pub whole-within : (wholeOf records room ≤ records) × (wholeOf records room ≤ room)
-  unfolding wholeOf
-  whole-within = within records room (ltb records room) refl
+  pub reach-within : (reachOf records room ≤ records) × (reachOf records room ≤ room)
+  unfolding reachOf
+  reach-within = within records room (ltb records room) refl
 
-  pub next-within : (at k : ℕ) → at ≡ recordBytes * k → at < wholeOf records room → at + recordBytes ≤ wholeOf records room
-  unfolding wholeOf
+  pub next-within : (at k : ℕ) → at ≡ recordBytes * k → at < reachOf records room → at + recordBytes ≤ reachOf records room
+  unfolding reachOf
   next-within at k e h = omega arith
 
 full-room : (records room : ℕ) {at : ℕ} (test : Bool) → at ≡ cond test records room / recordBytes * recordBytes → recordBytes ≤ records - at → room - at < recordBytes
@@ -147,8 +147,8 @@ module _ {l₀ : Ledger} {file out₀ entries : List ℕ} {good : Bool} {out : L
   no-more true e some full = at-short (omega (arith, some)) (ltb-true (length file - at) recordBytes e)
   no-more false e some full = let long = ltb-false (length file - at) recordBytes e in at-full long (full long)
 
-  pub at-last : at ≡ wholeOf (length file) (length out) → Ends (leftOver (length file - at))
-  unfolding leftOver wholeOf
+  pub at-last : at ≡ reachOf (length file) (length out) → Ends (leftOver (length file - at))
+  unfolding leftOver reachOf
   at-last e =
       elim (ℕ-discrete (length file - at) 0) [
         | yes z ↦ simp (eq-eqb (length file - at) 0 z) (at-end z)

@@ -1,4 +1,4 @@
 pub mod Period
 pub mod Take
 pub mod History
-pub mod Whole
+pub mod Reach

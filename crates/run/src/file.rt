@@ -4,7 +4,7 @@ ghost use Prim.Native.Nat.{_-_, _≤_};
 ghost use lib.ListN.{length, take};
 ghost use Rattle.run.specs.Period.{Fit};
 ghost use Rattle.run.specs.History.{recordsOf, runOf, outcomeOf, outOf};
-ghost use Rattle.run.specs.Whole.{wholeOf, leftOver};
+ghost use Rattle.run.specs.Reach.{reachOf, leftOver};
 use crate::answer::Outcome;
 use crate::entry::offer;
 use ledger::Ledger;
@@ -32,8 +32,8 @@ fn ended(first: u16, ledger: Ledger, refusal: u8) -> Outcome
 }
 
 // Answers how many bytes of so many the records take that are whole and have room for their output records.
-fn whole(records: usize, room: usize) -> usize
-    ensures { λ r. ⌜ r ≡ wholeOf records room ⌝ }
+fn reach(records: usize, room: usize) -> usize
+    ensures { λ r. ⌜ r ≡ reachOf records room ⌝ }
 {
     if records < room {
         return records / Ledger::BYTES * Ledger::BYTES;
@@ -62,7 +62,7 @@ pub fn run(ledger: Ledger, records: &[u8], out: &mut [u8]) -> Outcome
 {
     let good = ledger.is_sound();
     let entries = run_entries(ledger, records);
-    let end = whole(records.len(), out.len());
+    let end = reach(records.len(), out.len());
     let first = ledger.n;
     let mut ledger = ledger;
     let mut at: usize = 0;

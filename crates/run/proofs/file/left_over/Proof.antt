@@ -1,6 +1,6 @@
 -- The two tests, one after the other.
 use borrow.Author.Tests.{eq-eqb, ne-eqb, lt-ltb, le-ltb}
-use Rattle.run.specs.Whole.{leftOver}
+use Rattle.run.specs.Reach.{leftOver}
 use Rattle.run.proofs.file.left_over.Statement.{statement}
 use Rattle.run.proofs.file.left_over.Tie as tie
 

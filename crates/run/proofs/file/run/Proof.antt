@@ -10,7 +10,7 @@ use Rattle.ledger.specs.Refusal.{refusalOf}
 use Rattle.ledger.proofs.Accepted.{room-alike}
 use Rattle.run.specs.Take.{takeOf, writtenOf}
 use Rattle.run.proofs.Take.{taken}
-use Rattle.run.proofs.MidRun.{MidRun, run-starts, lent, back-taken, back-refused, whole-within, next-within, at-refusal, at-last, turn-on}
+use Rattle.run.proofs.MidRun.{MidRun, run-starts, lent, back-taken, back-refused, reach-within, next-within, at-refusal, at-last, turn-on}
 use Rattle.run.proofs.file.run.Statement.{statement}
 use Rattle.run.proofs.file.run.Tie as tie
 
@@ -32,16 +32,16 @@ bytesAt h = take 48 (drop (h .loop .at) (fileOf h))
 
 -- it is whole, and has room
 record Ready (h : Head) : Type 0 where
-  more : h .loop .at + 48 ≤ h .before .whole .result
+  more : h .loop .at + 48 ≤ h .before .reach .result
   in-file : h .loop .at + 48 ≤ length (fileOf h)
   in-out : h .loop .at + 48 ≤ length (h .loop .out)
 
 ready : (c : tie.In-loop Inv-loop μ-loop) → Ready (c .before)
 ready c =
     let h = c .before in
-    let end = h .before .whole .ensures in
+    let end = h .before .reach .ensures in
     let out₀ = h .before .before .before .before .before .before .args .out .now in
-    let w = whole-within (length (fileOf h)) (length out₀) in
+    let w = reach-within (length (fileOf h)) (length out₀) in
     let next = next-within (length (fileOf h)) (length out₀) (h .loop .at) (length (h .loop .inv .0 .done)) (h .loop .inv .0 .counted) (omega (arith, end, c .loop-test .taken)) in
     record { more = omega (arith, end, next); in-file = omega (arith, next, w .0); in-out = omega (arith, next, w .1, h .loop .inv .0 .as-long) }
 
@@ -92,7 +92,7 @@ loop-again c =
 returns-2 : tie.Need-returns-2 Inv-loop μ-loop
 returns-2 c =
     let h = c .before .before .before in
-    let end = at-last (h .loop .inv .0) (rw (h .loop .inv .0 .as-long) (omega (arith, c .before .before .loop-test, h .loop .inv .1, h .before .whole .ensures))) in
+    let end = at-last (h .loop .inv .0) (rw (h .loop .inv .0 .as-long) (omega (arith, c .before .before .loop-test, h .loop .inv .1, h .before .reach .ensures))) in
     (c .ended2 .ensures ∙ rw (c .before .left-over .ensures) (end .0), end .1)
 
 pub run-spec : {M : Type 1} → statement M

@@ -5,8 +5,8 @@ use lib.Dec.{eqb, ltb}
 use Rattle.record.specs.Fields.{recordBytes}
 
 -- The bytes of the records that are whole and have room for their output records.
-unfoldable pub wholeOf : (records room : ℕ) → ℕ
-wholeOf records room = cond (ltb records room) records room / recordBytes * recordBytes
+unfoldable pub reachOf : (records room : ℕ) → ℕ
+reachOf records room = cond (ltb records room) records room / recordBytes * recordBytes
 
 -- What is left behind them has no whole record (1) or no room for it (2).
 unfoldable pub leftOver : (bytes : ℕ) → ℕ
