@@ -8,11 +8,11 @@ use native.Mathlib.Omega.{arith}
 use lib.ListN.{length, take}
 use Rattle.record.specs.Fields.{recordBytes}
 use Rattle.ledger.specs.Refusal.{refusalOf}
-use Rattle.run.specs.Take.{acceptedOf, takeOf}
-use Rattle.run.specs.History.{Turn, turns, ledgerAfter, recordsOf, inTurn, runOf}
+use Rattle.ledger.specs.Take.{acceptedOf, takeOf}
+use Rattle.ledger.specs.History.{Turn, turns, ledgerAfter, recordsOf, inTurn, runOf}
 use Rattle.ledger.specs.declared.book.Ledger.{Ledger}
-use Rattle.run.proofs.Take.{taken, take-refusal, refused-keeps}
-use Rattle.run.proofs.History.{run-goes-on, run-stops, run-ends}
+use Rattle.ledger.proofs.Take.{taken, take-refusal, refused-keeps}
+use Rattle.ledger.proofs.History.{run-goes-on, run-stops, run-ends}
 use Rattle.image.specs.Image.{imageOf, Kept}
 use Rattle.image.proofs.Kept.{image-back}
 use Rattle.calls.specs.Calls.{roomOf, takeHere, takeImage, runHere, runImage, offerOf, offersOf}

@@ -10,13 +10,13 @@ use lib.Dec.{eqb, ltb}
 use lib.ListN.{length, take, drop, take-append-drop, drop-of-length-le}
 use lib.Seq.{take-all, length-take-le}
 use Rattle.ledger.specs.Refusal.{refusalOf}
-use Rattle.run.specs.Take.{acceptedOf, takeOf, writtenOf, outputRecord}
-use Rattle.run.specs.History.{Run, runOf}
+use Rattle.ledger.specs.Take.{acceptedOf, takeOf, writtenOf, outputRecord}
+use Rattle.ledger.specs.History.{Run, runOf}
 use Rattle.ledger.specs.declared.book.Ledger.{Ledger}
-use Rattle.run.specs.declared.answer.Answer.{Answer}
+use Rattle.ledger.specs.declared.answer.Answer.{Answer}
 use Rattle.ledger.proofs.Accepted.{accepted, has-room}
-use Rattle.run.proofs.Take.{taken, take-refusal, refused-writes-nothing}
-use Rattle.run.proofs.History.{run-stops, run-ends}
+use Rattle.ledger.proofs.Take.{taken, take-refusal, refused-writes-nothing}
+use Rattle.ledger.proofs.History.{run-stops, run-ends}
 use Rattle.image.specs.Image.{imageBytes, isImage, noLedger, ledgerOf, imageOf, imaged}
 use Rattle.image.proofs.Laws.{image-size, image-fills}
 use Rattle.calls.specs.Calls.{answerBytes, roomOf, takeHere, takeImage, takeOut, runImage}

@@ -5,9 +5,9 @@ use Prim.Native.Nat.{ℕ, suc}
 use lib.Dec.{eqb, ltb}
 use lib.ListN.{length, getD, take, drop}
 use Rattle.numbers.specs.Bytes.{bytesOf, rowOf}
-use Rattle.run.specs.Take.{takeOf, outputRecord}
-use Rattle.run.specs.History.{Offer, Run, recordsOf, inTurn, runOf}
-use Rattle.run.specs.declared.answer.Answer.{Answer}
+use Rattle.ledger.specs.Take.{takeOf, outputRecord}
+use Rattle.ledger.specs.History.{Offer, Run, recordsOf, inTurn, runOf}
+use Rattle.ledger.specs.declared.answer.Answer.{Answer}
 use Rattle.image.specs.Image.{imageOf, ledgerOf}
 
 -- The eight releases, x0, figure and bound of an answer, in 8 bytes each.

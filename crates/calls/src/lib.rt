@@ -2,9 +2,9 @@
 // hand their buffers over to it: 'One step' of document 01, and its last paragraph.
 ghost use mathlib.Core.Path.{_≡_};
 ghost use lib.ListN.{length};
-ghost use Rattle.run.specs.History.{outOf};
+ghost use Rattle.ledger.specs.History.{outOf};
 ghost use Rattle.calls.specs.Calls.{answered, roomOf, takeHere, takeImage, takeOut, takeAnswer, runHere, runImage};
-use run::Answer;
+use ledger::Answer;
 
 // The bytes of an answer.
 const ANSWER_BYTES: usize = 88;
@@ -38,7 +38,7 @@ pub fn take(image: &mut [u8], record: &[u8], out: &mut [u8], answer: &mut [u8]) 
     ensures { λ _. ⌜ now (answer .exit) ≡ takeAnswer (now (image .entry)) (now («record» .entry)) (now (out .entry)) (now (answer .entry)) ⌝ }
 {
     let room = room(out.len(), answer.len());
-    let taken = step::take(image::read(image), record, &mut out[..room]);
+    let taken = image::read(image).take(record, &mut out[..room]);
     write_answer(answer, taken);
     if taken.refusal == 0 {
         image::write(image, taken.ledger);
@@ -54,7 +54,7 @@ pub fn run(image: &mut [u8], records: &[u8], out: &mut [u8], accepted: &mut u64)
     ensures { λ _. ⌜ now (out .exit) ≡ outOf (runHere (now (image .entry)) (now (records .entry)) (length (now (out .entry)))) (now (out .entry)) ⌝ }
     ensures { λ _. ⌜ now (accepted .exit) ≡ length (runHere (now (image .entry)) (now (records .entry)) (length (now (out .entry))) .accepted) ⌝ }
 {
-    let end = run::run(image::read(image), records, out);
+    let end = ledger::run(image::read(image), records, out);
     *accepted = end.accepted;
     if end.accepted > 0 {
         image::write(image, end.ledger);

@@ -10,17 +10,15 @@ use Rattle.numbers.specs.Bytes.{numberAt, bytesOf}
 use Rattle.numbers.specs.Eight.{eight}
 use Rattle.numbers.proofs.Bytes.{read-back}
 use Rattle.record.specs.Fields.{recordBytes}
-use Rattle.ledger.specs.Stock.{fresh, broughtAt, stockAt}
-use Rattle.run.specs.Period.{after}
+use Rattle.ledger.specs.Stock.{fresh, broughtAt, stockAt, after}
 use Rattle.ledger.specs.Refusal.{sound, allZero, emptyAt, refusalOf}
-use Rattle.run.specs.Take.{acceptedOf, takeOf}
-use Rattle.run.specs.History.{Offer, turns, ledgerAfter, runOf}
+use Rattle.ledger.specs.Take.{acceptedOf, takeOf}
+use Rattle.ledger.specs.History.{Offer, turns, ledgerAfter, runOf}
 use Rattle.ledger.specs.declared.book.Ledger.{Ledger}
 use Rattle.ledger.proofs.Sound.{sound-is}
-use Rattle.ledger.proofs.Accepted.{accepted}
-use Rattle.run.proofs.After.{accepted-sound}
-use Rattle.run.proofs.Take.{taken, refused-keeps}
-use Rattle.run.proofs.History.{run-goes-on, run-stops, run-ends}
+use Rattle.ledger.proofs.Accepted.{accepted, accepted-sound}
+use Rattle.ledger.proofs.Take.{taken, refused-keeps}
+use Rattle.ledger.proofs.History.{run-goes-on, run-stops, run-ends}
 use Rattle.image.specs.Image.{imageOf, saidBy, isImage, noLedger, ledgerOf, Kept}
 
 -- Eight numbers are read back from their bytes.

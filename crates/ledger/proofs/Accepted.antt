@@ -1,32 +1,40 @@
--- What holds of a record that is not refused, looked up by the fault's number.
+-- What holds of a record that is not refused, looked up by the fault's number, and that the ledger after it is sound again.
 use mathlib.Core.Path.{_≡_, refl}
-use mathlib.Core.Bool.{true, false}
+use mathlib.Core.Bool.{Bool, true, false, not, cond}
 use mathlib.Core.List.{List}
-use Prim.Native.Nat.{ℕ, _+_, _≤_, _<_}
+use Prim.Native.Nat.{ℕ, _+_, _*_, _^_, _≤_, _<_}
+use native.Mathlib.Nat.{mul-le-mul-right}
 use native.Mathlib.Omega.{arith}
 use borrow.Author.Tests.{not-false, eqb-true, eqb-false, ltb-false, lt-ltb, le-ltb}
 use lib.Dec.{eqb}
 use lib.ListN.{length}
 use Rattle.numbers.specs.Eight.{everyOf}
-use Rattle.numbers.proofs.Eight.{both-true, all-true, every-at}
-use Rattle.numbers.proofs.Fault.{isBad, clear}
+use Rattle.numbers.specs.Fault.{firstOf, ahead}
+use Rattle.numbers.proofs.Eight.{both-true, all-true, every-at, eight-at}
+use Rattle.numbers.proofs.Fault.{isBad, clear, parted}
+use Rattle.numbers.proofs.Split.{share-most}
 use Rattle.decay.specs.Series.{isKind}
-use Rattle.waste.specs.Waste.{isClimate}
-use Rattle.record.specs.Fields.{recordBytes, periodOf, kindOf, climateOf, factorsOf}
+use Rattle.decay.proofs.Rule.{entry-below}
+use Rattle.waste.specs.Waste.{carbonOf, rateOf, isClimate}
+use Rattle.record.specs.Fields.{recordBytes, periodOf, kindOf, climateOf, factorsOf, depositOf}
 use Rattle.record.specs.Ranges.{codes, coded, inRange, light}
-use Rattle.stock.specs.Stock.{mostRecords}
-use Rattle.ledger.specs.Refusal.{sound, continues, faultsOf, refusalOf}
+use Rattle.record.proofs.Laws.{mass-light}
+use Rattle.stock.specs.Stock.{mostRecords, mostBrought, entryAt, ceilingOf}
+use Rattle.ledger.specs.Stock.{leftOf, newBrought, held, newStock, release, after}
+use Rattle.refusal.specs.Refusal.{continues, faultsOf}
+use Rattle.ledger.specs.Refusal.{sound, refusalOf}
+use Rattle.ledger.specs.Take.{acceptedOf}
 use Rattle.ledger.specs.declared.book.Ledger.{Ledger}
-use Rattle.ledger.proofs.Sound.{Sound, sound-is}
+use Rattle.ledger.proofs.Sound.{Sound, sound-is, is-sound}
 
 module _ (l : Ledger) (bytes : List ℕ) (room : ℕ) (e : refusalOf l bytes room ≡ 0) where
   -- The fault with a number is not there.
   abbrev pub Clear : ℕ → Type 0
-  Clear k = isBad k (faultsOf (sound l) l bytes room) ≡ false
+  Clear k = isBad k (faultsOf (sound l) (l .n) (l .kind) (l .climate) bytes room) ≡ false
 
   none : (k : ℕ) → Clear k
   unfolding refusalOf faultsOf
-  none k = clear k (faultsOf (sound l) l bytes room) refl e
+  none k = clear k (faultsOf (sound l) (l .n) (l .kind) (l .climate) bytes room) refl e
 
   pub was-sound : sound l ≡ true
   unfolding faultsOf
@@ -63,15 +71,80 @@ module _ (l : Ledger) (bytes : List ℕ) where
         climate = code .1 .0;
         period = eqb-true (periodOf bytes) (l .n + 1) (not-false (eqb (periodOf bytes) (l .n + 1)) (none l bytes room e 6));
         same = λ some.
-            let both : continues l bytes ≡ true
-            = not-false (continues l bytes) (simp (lt-ltb 0 (l .n) (omega (arith, some))) at (none l bytes room e 7)) in
+            let both : continues (l .kind) (l .climate) bytes ≡ true
+            = not-false (continues (l .kind) (l .climate) bytes) (simp (lt-ltb 0 (l .n) (omega (arith, some))) at (none l bytes room e 7)) in
             let q = both-true (eqb (kindOf bytes) (l .kind)) (eqb (climateOf bytes) (l .climate)) both in
             (eqb-true (kindOf bytes) (l .kind) (q .0), eqb-true (climateOf bytes) (l .climate) (q .1));
         ranges = not-false (inRange (factorsOf bytes)) (none l bytes room e 8);
         light-each = λ t h. every-at (light bytes) 8 t h (not-false (everyOf (light bytes) 8) (none l bytes room e 9));
       }
 
+-- The refusal is what everything ahead of the masses decides, and else what the masses decide.
+module _ (l : Ledger) (bytes : List ℕ) (room : ℕ) where
+  abbrev pub early : Bool → ℕ
+  early good = firstOf (ahead 9 (faultsOf good (l .n) (l .kind) (l .climate) bytes room))
+
+  pub refused-early : (early (sound l) ≡ 0 → ⊥) → refusalOf l bytes room ≡ early (sound l)
+  unfolding refusalOf faultsOf
+  refused-early h = parted 9 (faultsOf (sound l) (l .n) (l .kind) (l .climate) bytes room) refl .0 h
+
+  pub refused-late : early (sound l) ≡ 0 → refusalOf l bytes room ≡ cond (not (everyOf (light bytes) 8)) 9 0
+  unfolding refusalOf faultsOf
+  refused-late h = parted 9 (faultsOf (sound l) (l .n) (l .kind) (l .climate) bytes room) refl .1 h
+
 -- Room for an output record is all the room that matters.
 pub room-alike : (l : Ledger) (bytes : List ℕ) (room more : ℕ) → recordBytes ≤ room → recordBytes ≤ more → refusalOf l bytes room ≡ refusalOf l bytes more
 unfolding refusalOf faultsOf
 room-alike l bytes room more h k = simp (le-ltb room recordBytes h, le-ltb more recordBytes k)
+
+module _ (l : Ledger) (bytes : List ℕ) (a : Accepted l bytes) (t : ℕ) (h : t < 8) where
+  pub new-kept : newStock l bytes t ≤ newBrought l bytes t
+  unfolding newStock newBrought held leftOf entryAt
+  new-kept =
+      let D = entryAt (kindOf bytes) (climateOf bytes) t in
+      let most : D ≤ 10 ^ 9 = omega (arith, entry-below (kindOf bytes) (rateOf (t + 1) (climateOf bytes))) in
+      omega (arith, share-most (held l bytes t) D (10 ^ 9) most, a .ledger .at t h .kept)
+
+  pub new-within : newBrought l bytes t ≤ ceilingOf (l .n + 1) t
+  unfolding newBrought depositOf ceilingOf
+  new-within = omega (arith, mul-le-mul-right (carbonOf (t + 1) * 100) (mass-light bytes t (a .light-each t h)), a .ledger .at t h .ceiling)
+
+  pub release-most : release l bytes t ≤ newBrought l bytes t
+  unfolding release held newBrought
+  release-most = omega (arith, a .ledger .at t h .kept)
+
+-- Inert waste, type 6, has a ceiling of 0, and so T, R and G of 0.
+pub record NoneAt (l : Ledger) (bytes : List ℕ) (t : ℕ) : Type 0 where
+  pub T : newBrought l bytes t ≡ 0
+  pub R : newStock l bytes t ≡ 0
+  pub G : release l bytes t ≡ 0
+
+pub no-carbon : (l : Ledger) (bytes : List ℕ) → Accepted l bytes → NoneAt l bytes 5
+unfolding ceilingOf carbonOf
+no-carbon l bytes a =
+    let T : newBrought l bytes 5 ≡ 0 = omega (arith, new-within l bytes a 5 (omega arith)) in
+    record { T = T; R = omega (arith, new-kept l bytes a 5 (omega arith)); G = omega (arith, release-most l bytes a 5 (omega arith)) }
+
+-- A sound ledger that takes a record is sound again.
+pub stays-sound : (l : Ledger) (bytes : List ℕ) → Accepted l bytes → sound (after l bytes) ≡ true
+unfolding after
+stays-sound l bytes a =
+    is-sound (after l bytes) (omega (arith, a .more)) (λ z. omega arith) (simp (a .kind, a .climate))
+    (λ t h. rw (eight-at (newBrought l bytes) t h, eight-at (newStock l bytes) t h) (new-kept l bytes a t h, new-within l bytes a t h))
+
+-- The ledger of an accepted answer is sound.
+pub accepted-sound : (l : Ledger) (bytes : List ℕ) → Accepted l bytes → sound (acceptedOf l bytes .ledger) ≡ true
+unfolding acceptedOf
+accepted-sound l bytes a = stays-sound l bytes a
+
+-- So T, R and G of every type are small after an accepted record.
+pub record Small (l : Ledger) (bytes : List ℕ) (t : ℕ) : Type 0 where
+  pub T : newBrought l bytes t ≤ mostBrought
+  pub R : newStock l bytes t ≤ mostBrought
+  pub G : release l bytes t ≤ mostBrought
+
+pub new-small : (l : Ledger) (bytes : List ℕ) → Accepted l bytes → (t : ℕ) → t < 8 → Small l bytes t
+unfolding after
+new-small l bytes a t h =
+    let T : newBrought l bytes t ≤ mostBrought = rw (eight-at (newBrought l bytes) t h) at (sound-is (after l bytes) (stays-sound l bytes a) .at t h .small) in
+    record { T = T; R = omega (arith, new-kept l bytes a t h); G = omega (arith, release-most l bytes a t h) }

@@ -1,2 +1,9 @@
 pub mod Sound
+pub mod Step
 pub mod Accepted
+pub mod Settle
+pub mod Take
+pub mod History
+pub mod MidRun
+pub mod Fits
+pub mod OneRecord

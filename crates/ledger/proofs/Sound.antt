@@ -69,10 +69,10 @@ sound-is l e =
     ]
 
 -- A ledger with records, in order, is sound.
-pub sound-by : (l : Ledger) → l .n ≤ mostRecords → (l .n ≡ 0 → ⊥) → inCode l ≡ true
+pub is-sound : (l : Ledger) → l .n ≤ mostRecords → (l .n ≡ 0 → ⊥) → inCode l ≡ true
     → ((t : ℕ) → t < 8 → (stockAt l t ≤ broughtAt l t) × (broughtAt l t ≤ ceilingOf (l .n) t)) → sound l ≡ true
 unfolding sound inOrder withinAt withinOf
-sound-by l few some code at =
+is-sound l few some code at =
     let every : everyOf (withinAt l) 8 ≡ true
     = every-each (withinAt l) 8 (λ t h. simp (le-leb (broughtAt l t) (ceilingOf (l .n) t) (at t h .1), le-leb (stockAt l t) (broughtAt l t) (at t h .0))) in
     simp (le-leb (l .n) mostRecords few, ne-eqb (l .n) 0 some, code, every)

@@ -1,3 +1,5 @@
 pub mod Stock
 pub mod Refusal
-pub mod Totals
+pub mod Take
+pub mod History
+pub mod Reach

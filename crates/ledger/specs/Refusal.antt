@@ -1,16 +1,14 @@
--- Document 01, 'Refusal numbers, tested in this order'.
-use mathlib.Core.Bool.{Bool, not, cond, _&&_}
-use mathlib.Core.List.{List, [], _∷_}
-use Prim.Native.Nat.{ℕ, _+_}
-use lib.Dec.{eqb, leb, ltb}
-use lib.ListN.{length}
+-- Document 01, refusal 3: when a ledger is sound; and the refusal of a record.
+use mathlib.Core.Bool.{Bool, cond, _&&_}
+use mathlib.Core.List.{List}
+use Prim.Native.Nat.{ℕ}
+use lib.Dec.{eqb, leb}
 use Rattle.numbers.specs.Eight.{everyOf}
-use Rattle.numbers.specs.Fault.{Fault, _when_, firstOf}
+use Rattle.numbers.specs.Fault.{firstOf}
 use Rattle.decay.specs.Series.{isKind}
 use Rattle.waste.specs.Waste.{isClimate}
-use Rattle.record.specs.Fields.{recordBytes, periodOf, kindOf, climateOf, factorsOf}
-use Rattle.record.specs.Ranges.{coded, inRange, light}
 use Rattle.stock.specs.Stock.{mostRecords, withinOf}
+use Rattle.refusal.specs.Refusal.{faultsOf}
 use Rattle.ledger.specs.Stock.{broughtAt, stockAt}
 use Rattle.ledger.specs.declared.book.Ledger.{Ledger}
 
@@ -37,23 +35,6 @@ inOrder l = inCode l && everyOf (withinAt l) 8
 unfoldable pub sound : Ledger → Bool
 sound l = leb (l .n) mostRecords && cond (eqb (l .n) 0) (allZero l) (inOrder l)
 
--- Kind and climate are the ledger's.
-unfoldable pub continues : Ledger → List ℕ → Bool
-continues l bytes = eqb (kindOf bytes) (l .kind) && eqb (climateOf bytes) (l .climate)
-
--- The faults by their numbers, in order; `good` says whether the ledger is sound, and `room` how many bytes of output are left.
-unfoldable pub faultsOf : (good : Bool) → Ledger → List ℕ → (room : ℕ) → List Fault
-faultsOf good l bytes room =
-    1 when not (eqb (length bytes) recordBytes)
-    ∷ 2 when ltb room recordBytes
-    ∷ 3 when not good
-    ∷ 4 when eqb (l .n) mostRecords
-    ∷ 5 when not (coded bytes)
-    ∷ 6 when not (eqb (periodOf bytes) (l .n + 1))
-    ∷ 7 when (ltb 0 (l .n) && not (continues l bytes))
-    ∷ 8 when not (inRange (factorsOf bytes))
-    ∷ 9 when not (everyOf (light bytes) 8)
-    ∷ []
-
+-- What refuses a record, with room for so many bytes of output: the first fault.
 unfoldable pub refusalOf : Ledger → List ℕ → (room : ℕ) → ℕ
-refusalOf l bytes room = firstOf (faultsOf (sound l) l bytes room)
+refusalOf l bytes room = firstOf (faultsOf (sound l) (l .n) (l .kind) (l .climate) bytes room)

@@ -1,21 +1,26 @@
 // The ledger, from value to value.
 ghost use mathlib.Core.Bool.{cond, _&&_};
+ghost use mathlib.Core.List.{_++_};
 ghost use mathlib.Core.Path.{_≡_};
+ghost use Prim.Native.Nat.{_<_};
 ghost use lib.Dec.{eqb};
-ghost use Rattle.numbers.specs.Fault.{firstOf};
+ghost use lib.ListN.{length, drop};
+ghost use Rattle.numbers.specs.Eight.{eight};
 ghost use Rattle.decay.specs.Series.{isKind};
 ghost use Rattle.waste.specs.Waste.{isClimate};
-ghost use Rattle.ledger.specs.Stock.{fresh};
-ghost use Rattle.ledger.specs.Refusal.{blank, inCode, sound, continues, faultsOf};
-ghost use Rattle.ledger.specs.Totals.{totalsOf};
+ghost use Rattle.record.specs.Fields.{kindOf, climateOf};
+ghost use Rattle.stock.specs.Stock.{entryAt};
+ghost use Rattle.ledger.specs.Stock.{fresh, newStock, release, decayedAt, periodOfAll};
+ghost use Rattle.ledger.specs.Refusal.{blank, inCode, sound, refusalOf};
+ghost use Rattle.ledger.specs.Take.{acceptedOf, refusedOf, outputRecord, takeOf, writtenOf, totalsOf};
+use crate::answer::Answer;
+use crate::answer::Totals;
+use crate::file;
+use crate::period::Decayed;
+use crate::period::Period;
+use crate::period::left;
+use output::Output;
 use record::Factors;
-
-// The refusal (3 for an unsound ledger, else 0), and the carbon left and brought in over all types, in mg.
-pub struct Totals {
-    pub refusal: u8,
-    pub stock: u64,
-    pub brought: u64,
-}
 
 // One site's ledger: the number n of accepted records, their kind and climate, and for each type the carbon brought in (T)
 // and the carbon left (R), in whole milligrams. Place 0 of a list is type 1.
@@ -67,46 +72,147 @@ impl Ledger {
         self.is_coded() & stock::are_within(self.n, brought, left)
     }
 
-    // Tells whether a record has the ledger's kind and climate.
-    fn is_continued(self, bytes: &[u8]) -> bool
-        ensures { λ r. ⌜ r ≡ continues self (now (bytes .entry)) ⌝ }
+    // Decays one type: answers what place t has after an accepted record, given the table entries of its kind and climate.
+    fn decay(self, entries: [u32; 8], bytes: &[u8], t: usize) -> Decayed
+        requires { ⌜ (refusalOf self (now bytes) 48 ≡ 0) × (t < 8) ⌝ }
+        requires { ⌜ entries ≡ eight (entryAt (kindOf (now bytes)) (climateOf (now bytes))) ⌝ }
+        ensures { λ r. ⌜ r ≡ decayedAt self (now (bytes .entry)) t ⌝ }
     {
-        (record::kind(bytes) == self.kind) & (record::climate(bytes) == self.climate)
+        let deposit = record::deposit(bytes, t as u8);
+        let held = self.stock[t] + deposit;
+        let left = left(held, entries[t]);
+        Decayed {
+            brought: self.brought[t] + deposit,
+            stock: left,
+            release: held - left,
+        }
     }
 
-    // Answers the number of the first fault of a record, 0 if none, with room for so many bytes of output; `good` says whether the
-    // ledger is sound, which a run of records asks once.
-    pub fn refusal(self, good: bool, bytes: &[u8], room: usize) -> u8
-        ensures { λ r. ⌜ r ≡ firstOf (faultsOf good self (now (bytes .entry)) room) ⌝ }
+    // Decays every type but inert waste, which has no carbon; each place is written out, so that no copy of the ledger is made for
+    // one known only at run time.
+    fn decay_all(self, entries: [u32; 8], bytes: &[u8]) -> Period
+        requires { ⌜ refusalOf self (now bytes) 48 ≡ 0 ⌝ }
+        requires { ⌜ entries ≡ eight (entryAt (kindOf (now bytes)) (climateOf (now bytes))) ⌝ }
+        ensures { λ r. ⌜ r ≡ periodOfAll self (now (bytes .entry)) ⌝ }
+    {
+        let a = self.decay(entries, bytes, 0);
+        let b = self.decay(entries, bytes, 1);
+        let c = self.decay(entries, bytes, 2);
+        let d = self.decay(entries, bytes, 3);
+        let e = self.decay(entries, bytes, 4);
+        let g = self.decay(entries, bytes, 6);
+        let h = self.decay(entries, bytes, 7);
+        let early = a.release + b.release + c.release + d.release;
+        let later = e.release + g.release + h.release;
+        Period {
+            brought: [
+                a.brought,
+                b.brought,
+                c.brought,
+                d.brought,
+                e.brought,
+                0,
+                g.brought,
+                h.brought,
+            ],
+            stock: [
+                a.stock,
+                b.stock,
+                c.stock,
+                d.stock,
+                e.stock,
+                0,
+                g.stock,
+                h.stock,
+            ],
+            x0: early + later,
+        }
+    }
+
+    // Enters an accepted record: answers the ledger after it, and writes its output record at the start of the output.
+    pub(crate) fn enter(self, entries: [u32; 8], bytes: &[u8], out: &mut [u8]) -> Ledger
+        requires { ⌜ refusalOf self (now bytes) (length (now out)) ≡ 0 ⌝ }
+        requires { ⌜ entries ≡ eight (entryAt (kindOf (now bytes)) (climateOf (now bytes))) ⌝ }
+        ensures { λ r. ⌜ r ≡ acceptedOf self (now (bytes .entry)) .ledger ⌝ }
+        ensures { λ _. ⌜ now (out .exit) ≡ outputRecord (acceptedOf self (now (bytes .entry))) ++ drop 48 (now (out .entry)) ⌝ }
+    {
+        let all = self.decay_all(entries, bytes);
+        let factors = Factors::of(bytes);
+        let brought = all.brought;
+        let stock = all.stock;
+        let n = self.n + 1;
+        let kind = record::kind(bytes);
+        let climate = record::climate(bytes);
+        let says = Output {
+            period: n,
+            kind,
+            climate,
+            x0: all.x0,
+            figure: figure::figure(factors, all.x0),
+            bound: figure::bound(factors, figure::margins(n, brought)),
+            stock: stock::total(stock),
+            brought: stock::total(brought),
+        };
+        output::write(out, says);
+        Ledger {
+            n,
+            kind,
+            climate,
+            brought,
+            stock,
+        }
+    }
+
+    // Answers what each type releases by an accepted record that leaves so much: G = H - the new R.
+    fn released(self, bytes: &[u8], left: [u64; 8]) -> [u64; 8]
+        requires { ⌜ (refusalOf self (now bytes) 48 ≡ 0) × (left ≡ eight (newStock self (now bytes))) ⌝ }
+        ensures { λ r. ⌜ r ≡ eight (release self (now (bytes .entry))) ⌝ }
+    {
+        let mut releases = [0u64; 8];
+        for t in 0..8 {
+            releases[t] = self.stock[t] + record::deposit(bytes, t as u8) - left[t];
+        }
+        releases
+    }
+
+    // Answers that a record is refused by a number; the ledger comes back as it is.
+    fn refused(self, refusal: u8) -> Answer
+        ensures { λ r. ⌜ r ≡ refusedOf self refusal ⌝ }
+    {
+        Answer {
+            ledger: self,
+            refusal,
+            releases: [0; 8],
+            x0: 0,
+            figure: 0,
+            bound: 0,
+        }
+    }
+
+    // Takes one record: answers the ledger after it, its releases, figure and bound, and writes its output record at the start
+    // of the output; or refuses it by number, and leaves the ledger and the output as they are. It is a run of one record, so
+    // that the step's code stands once in a program.
+    pub fn take(self, bytes: &[u8], out: &mut [u8]) -> Answer
+        ensures { λ r. ⌜ r ≡ takeOf self (now (bytes .entry)) (length (now (out .entry))) ⌝ }
+        ensures { λ _. ⌜ now (out .exit) ≡ writtenOf self (now (bytes .entry)) (now (out .entry)) ⌝ }
     {
         if bytes.len() != Ledger::BYTES {
-            return 1;
+            return self.refused(1);
         }
-        if room < Ledger::BYTES {
-            return 2;
+        let end = file::run(self, bytes, out);
+        if end.refusal != 0 {
+            return self.refused(end.refusal);
         }
-        if !good {
-            return 3;
+        let after = end.ledger;
+        let left = after.stock;
+        Answer {
+            ledger: after,
+            refusal: 0,
+            releases: self.released(bytes, left),
+            x0: numbers::read_u64(out, 8),
+            figure: numbers::read_u64(out, 16),
+            bound: numbers::read_u64(out, 24),
         }
-        if self.n == Ledger::RECORDS {
-            return 4;
-        }
-        if !record::is_coded(bytes) {
-            return 5;
-        }
-        if record::period(bytes) as u64 != self.n as u64 + 1 {
-            return 6;
-        }
-        if (self.n > 0) & !self.is_continued(bytes) {
-            return 7;
-        }
-        if !Factors::of(bytes).is_in_range() {
-            return 8;
-        }
-        if !record::are_light(bytes) {
-            return 9;
-        }
-        0
     }
 
     // Answers the carbon left and the carbon brought in over all types; an unsound ledger is refused with 3.

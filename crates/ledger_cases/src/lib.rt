@@ -4,9 +4,9 @@
 ghost use mathlib.Core.Path.{_≡_};
 ghost use Prim.Native.Nat.{_≤_};
 ghost use lib.ListN.{length};
+use ledger::Answer;
 use ledger::Ledger;
-use run::Answer;
-use run::Outcome;
+use ledger::Outcome;
 
 // The longest output that is lent.
 const LONGEST: usize = 65536;
@@ -68,7 +68,7 @@ pub fn step(payload: &[u8])
     let mut out = output();
     let room = numbers::read_u16(payload, 136) as usize;
     let lent = &mut out[0..room];
-    let answer = step::take(ledger_of(payload), &payload[138..], lent);
+    let answer = ledger_of(payload).take(&payload[138..], lent);
     put_answer(answer);
     print::bytes(lent);
 }
@@ -102,7 +102,7 @@ pub fn run(payload: &[u8])
     let mut out = output();
     let room = room_of(numbers::read_u32(payload, 136));
     let lent = &mut out[0..room];
-    let outcome = run::run(ledger_of(payload), &payload[140..], lent);
+    let outcome = ledger::run(ledger_of(payload), &payload[140..], lent);
     put_outcome(outcome);
     print::bytes(lent);
 }

@@ -5,13 +5,13 @@ use mathlib.Core.List.{List, [], _∷_, _++_}
 use Prim.Native.Nat.{ℕ}
 use native.Mathlib.Decide.{ℕ-discrete}
 use borrow.Author.Tests.{ne-eqb}
-use Rattle.run.specs.Period.{after}
+use Rattle.ledger.specs.Stock.{after}
 use Rattle.ledger.specs.Refusal.{refusalOf}
-use Rattle.run.specs.Take.{acceptedOf, refusedOf}
-use Rattle.run.specs.History.{Offer, Turn, turns, ledgerAfter, accepted}
+use Rattle.ledger.specs.Take.{acceptedOf, refusedOf}
+use Rattle.ledger.specs.History.{Offer, Turn, turns, ledgerAfter, accepted}
 use Rattle.ledger.specs.declared.book.Ledger.{Ledger}
-use Rattle.run.proofs.History.{acceptedTurn}
-use Rattle.run.proofs.Take.{taken, not-taken}
+use Rattle.ledger.proofs.History.{acceptedTurn}
+use Rattle.ledger.proofs.Take.{taken, not-taken}
 use Rattle.promises.specs.Offering.{Offering, offeringTo}
 
 pub offering-ends : (l : Ledger) → offeringTo l [] ≡ record { ledger = l; accepted = [] }

@@ -13,13 +13,12 @@ use Rattle.numbers.proofs.Lists.{length-more, added-more}
 use Rattle.decay.specs.Series.{isKind}
 use Rattle.waste.specs.Waste.{isClimate}
 use Rattle.record.specs.Fields.{depositOf}
-use Rattle.ledger.specs.Stock.{fresh}
-use Rattle.run.specs.Period.{after}
+use Rattle.ledger.specs.Stock.{fresh, after}
 use Rattle.ledger.specs.Refusal.{refusalOf}
-use Rattle.run.specs.History.{Offer, Turn}
+use Rattle.ledger.specs.History.{Offer, Turn}
 use Rattle.ledger.proofs.Accepted as step
-use Rattle.run.proofs.History.{acceptedTurn}
-use Rattle.run.proofs.Step.{brought-after, released, balanced}
+use Rattle.ledger.proofs.History.{acceptedTurn}
+use Rattle.ledger.proofs.Step.{brought-after, released, balanced}
 use Rattle.promises.specs.Offering.{Offering, offeringTo, offering, recordsIn}
 use Rattle.promises.specs.Promises.{Conserved}
 use Rattle.promises.proofs.Offering.{offering-ends, offering-goes-on, offering-passes-over, behind}

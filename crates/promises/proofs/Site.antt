@@ -5,13 +5,12 @@ use Prim.Native.Nat.{ℕ, suc, _-_}
 use native.Mathlib.Decide.{ℕ-discrete}
 use lib.ListN.{length, take}
 use Rattle.record.specs.Fields.{recordBytes}
-use Rattle.ledger.specs.Stock.{fresh}
-use Rattle.run.specs.Period.{after}
+use Rattle.ledger.specs.Stock.{fresh, after}
 use Rattle.ledger.specs.Refusal.{refusalOf}
-use Rattle.run.specs.Take.{acceptedOf}
-use Rattle.run.specs.History.{Turn, turns, accepted, recordsOf, inTurn, runOf}
+use Rattle.ledger.specs.Take.{acceptedOf}
+use Rattle.ledger.specs.History.{Turn, turns, accepted, recordsOf, inTurn, runOf}
 use Rattle.ledger.specs.declared.book.Ledger.{Ledger}
-use Rattle.run.proofs.History.{acceptedTurn, run-goes-on, run-stops, run-ends}
+use Rattle.ledger.proofs.History.{acceptedTurn, run-goes-on, run-stops, run-ends}
 use Rattle.image.specs.Image.{imageBytes, imageOf, ledgerOf, Kept}
 use Rattle.image.proofs.Kept.{image-back, fresh-kept, turns-kept}
 use Rattle.calls.specs.Calls.{takeHere, runHere, offersOf}

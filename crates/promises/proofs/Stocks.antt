@@ -13,13 +13,12 @@ use Rattle.decay.specs.Series.{StandsFor}
 use Rattle.record.specs.Fields.{kindOf, climateOf, depositOf}
 use Rattle.stock.specs.Stock.{entryAt}
 use Rattle.stock.proofs.Laws.{entry-small}
-use Rattle.ledger.specs.Stock.{fresh, broughtAt, stockAt}
-use Rattle.run.specs.Period.{after}
+use Rattle.ledger.specs.Stock.{fresh, broughtAt, stockAt, after}
 use Rattle.ledger.specs.Refusal.{refusalOf}
 use Rattle.ledger.specs.declared.book.Ledger.{Ledger}
 use Rattle.ledger.proofs.Accepted as step
-use Rattle.run.proofs.History.{acceptedTurn}
-use Rattle.run.proofs.Step.{brought-after, stock-after}
+use Rattle.ledger.proofs.History.{acceptedTurn}
+use Rattle.ledger.proofs.Step.{brought-after, stock-after}
 use Rattle.promises.specs.Offering.{Offering, recordsIn}
 use Rattle.promises.specs.Exact.{remains, exactStock, depositIn}
 use Rattle.promises.specs.Promises.{CloseTo}

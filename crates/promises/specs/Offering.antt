@@ -2,7 +2,7 @@
 use mathlib.Core.List.{List, map}
 use Prim.Native.Nat.{ℕ}
 use Rattle.ledger.specs.Stock.{fresh}
-use Rattle.run.specs.History.{Offer, Turn, turns, ledgerAfter, accepted}
+use Rattle.ledger.specs.History.{Offer, Turn, turns, ledgerAfter, accepted}
 use Rattle.ledger.specs.declared.book.Ledger.{Ledger}
 
 -- What has come of some offers: the ledger after them, and the accepted records in order, each with its answer.

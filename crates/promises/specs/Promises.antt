@@ -15,12 +15,11 @@ use Rattle.waste.specs.Waste.{rateOf}
 use Rattle.record.specs.Fields.{recordBytes, periodOf, kindOf, climateOf, depositOf}
 use Rattle.stock.specs.Stock.{entryAt}
 use Rattle.ledger.specs.Stock.{fresh, broughtAt, stockAt}
-use Rattle.ledger.specs.Totals.{totalStock}
-use Rattle.run.specs.Take.{takeOf, outputFields}
-use Rattle.run.specs.History.{Offer, Turn, recordsOf, runOf, outOf, outcomeOf}
+use Rattle.ledger.specs.Take.{totalStock, takeOf, outputFields}
+use Rattle.ledger.specs.History.{Offer, Turn, recordsOf, runOf, outOf, outcomeOf}
 use Rattle.ledger.specs.declared.book.Ledger.{Ledger}
-use Rattle.run.specs.declared.answer.Answer.{Answer}
-use Rattle.run.specs.declared.answer.Outcome.{Outcome}
+use Rattle.ledger.specs.declared.answer.Answer.{Answer}
+use Rattle.ledger.specs.declared.answer.Outcome.{Outcome}
 use Rattle.image.specs.Image.{imageBytes}
 use Rattle.line.specs.Line.{acceptedText}
 use Rattle.lines.specs.Listing.{answerText, runText, listingOf}

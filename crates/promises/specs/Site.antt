@@ -3,7 +3,7 @@ use mathlib.Core.Path.{_≡_}
 use mathlib.Core.List.{List, [], _∷_, _++_}
 use Prim.Native.Nat.{ℕ}
 use lib.ListN.{length}
-use Rattle.run.specs.History.{Offer, Turn, accepted}
+use Rattle.ledger.specs.History.{Offer, Turn, accepted}
 use Rattle.image.specs.Image.{imageOf, ledgerOf}
 use Rattle.calls.specs.Calls.{takeHere, takeImage, runHere, runImage, offerOf, offersOf}
 use Rattle.promises.specs.Offering.{offering}

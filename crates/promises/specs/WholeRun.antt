@@ -5,11 +5,11 @@ use mathlib.Core.List.{List, [], _++_}
 use Prim.Native.Nat.{ℕ, _-_, _*_, _<_}
 use lib.ListN.{length, getD, take, drop}
 use Rattle.record.specs.Fields.{recordBytes}
-use Rattle.run.specs.Take.{takeOf}
-use Rattle.run.specs.History.{outputs, recordsOf, inTurn, Run, runOf}
+use Rattle.ledger.specs.Take.{takeOf}
+use Rattle.ledger.specs.History.{outputs, recordsOf, inTurn, Run, runOf}
 use Rattle.ledger.specs.declared.book.Ledger.{Ledger}
-use Rattle.run.specs.declared.answer.Answer.{Answer}
-use Rattle.run.specs.declared.answer.Outcome.{Outcome}
+use Rattle.ledger.specs.declared.answer.Answer.{Answer}
+use Rattle.ledger.specs.declared.answer.Outcome.{Outcome}
 use Rattle.promises.specs.Offering.{Offering, offeringTo, recordsIn}
 
 module _ (l : Ledger) (records : List (List ℕ)) (room : ℕ) (answer : Outcome) where

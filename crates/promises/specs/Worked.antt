@@ -8,8 +8,8 @@ use Rattle.numbers.specs.Bytes.{bytesOf}
 use Rattle.decay.specs.Series.{entryOf}
 use Rattle.record.specs.Fields.{recordBytes}
 use Rattle.ledger.specs.Stock.{fresh, stockAt}
-use Rattle.run.specs.Take.{takeOf}
-use Rattle.run.specs.declared.answer.Answer.{Answer}
+use Rattle.ledger.specs.Take.{takeOf}
+use Rattle.ledger.specs.declared.answer.Answer.{Answer}
 
 -- A row: an entry D of the decay table, or the first step with 1 kg of a type, with its release G and its stock R.
 pub data Row : Type 0 where

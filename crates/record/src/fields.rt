@@ -1,7 +1,6 @@
 // The other fields of a record, what is allowed in them, and the carbon of a mass.
 ghost use mathlib.Core.Path.{_≡_};
 ghost use lib.Dec.{eqb};
-ghost use Rattle.numbers.specs.Eight.{everyOf};
 ghost use Rattle.record.specs.Fields.{periodOf, kindOf, climateOf, zerosOf, massOf, depositOf};
 ghost use Rattle.record.specs.Ranges.{coded, light};
 use crate::bytes::byte;
@@ -54,22 +53,10 @@ fn mass(bytes: &[u8], t: u8) -> u32
 }
 
 // Tells whether the mass at place t is at most the limit.
-fn is_light(bytes: &[u8], t: u8) -> bool
+pub fn is_light(bytes: &[u8], t: u8) -> bool
     ensures { λ r. ⌜ r ≡ light (now (bytes .entry)) t ⌝ }
 {
     mass(bytes, t) as u64 <= waste::MASS_LIMIT
-}
-
-// Tells whether all eight masses are.
-pub fn are_light(bytes: &[u8]) -> bool
-    ensures { λ r. ⌜ r ≡ everyOf (light (now (bytes .entry))) 8 ⌝ }
-{
-    for t in 0..8u8 {
-        if !is_light(bytes, t) {
-            return false;
-        }
-    }
-    true
 }
 
 // Answers the carbon that the mass at place t brings, in mg; place 0 has type 1.

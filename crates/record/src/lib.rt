@@ -5,10 +5,10 @@ mod factors;
 mod fields;
 
 pub use factors::Factors;
-pub use fields::are_light;
 pub use fields::climate;
 pub use fields::deposit;
 pub use fields::is_coded;
+pub use fields::is_light;
 pub use fields::kind;
 pub use fields::period;
 

@@ -1,8 +1,8 @@
 -- The totals of the ledger that the image says.
 use mathlib.Core.Path.{_≡_, ap}
 use borrow.Author.Needs.{needs}
-use Rattle.ledger.specs.Totals.{totalsOf}
-use Rattle.ledger.specs.declared.book.Totals.{Totals}
+use Rattle.ledger.specs.Take.{totalsOf}
+use Rattle.ledger.specs.declared.answer.Totals.{Totals}
 use Rattle.image.specs.Image.{ledgerOf}
 use Rattle.abi.proofs.landfill_totals.Statement.{statement}
 use Rattle.abi.proofs.landfill_totals.Tie as tie

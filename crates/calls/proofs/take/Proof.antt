@@ -5,7 +5,7 @@ use native.Mathlib.Omega.{arith}
 use borrow.Author.Needs.{needs}
 use denote.Ref.{now}
 use lib.ListN.{length, drop}
-use Rattle.run.specs.declared.answer.Answer.{Answer}
+use Rattle.ledger.specs.declared.answer.Answer.{Answer}
 use Rattle.calls.specs.Calls.{answered, takeHere, takeOut, takeAnswer}
 use Rattle.calls.proofs.Takes.{room-most, part-length, step-is, out-is, image-next, image-stays}
 use Rattle.calls.proofs.take.Statement.{statement}

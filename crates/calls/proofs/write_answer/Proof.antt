@@ -9,7 +9,7 @@ use lib.ListN.{length, getD}
 use lib.Seq.{sets}
 use Rattle.numbers.specs.Bytes.{bytesOf, rowOf}
 use Rattle.numbers.proofs.Bytes.{front-written}
-use Rattle.run.specs.declared.answer.Answer.{Answer}
+use Rattle.ledger.specs.declared.answer.Answer.{Answer}
 use Rattle.calls.specs.Calls.{answerBytes, answerRow, answered}
 use Rattle.calls.proofs.write_answer.Statement.{statement}
 use Rattle.calls.proofs.write_answer.Tie as tie

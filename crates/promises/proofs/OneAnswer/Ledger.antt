@@ -1,11 +1,10 @@
--- The public functions of `ledger`, `run` and `step`.
+-- The public functions of `ledger`.
 use denote.Ref.{now}
 use Rattle.ledger.proofs.book.Ledger.fresh.Reads as fresh
 use Rattle.ledger.proofs.book.Ledger.is_sound.Reads as is-sound
-use Rattle.ledger.proofs.book.Ledger.refusal.Reads as refusal
 use Rattle.ledger.proofs.book.Ledger.totals.Reads as totals
-use Rattle.run.proofs.run.Reads as run
-use Rattle.step.proofs.take.Reads as take
+use Rattle.ledger.proofs.run.Reads as run
+use Rattle.ledger.proofs.book.Ledger.take.Reads as take
 use Rattle.promises.proofs.OneAnswer.{OneAnswer, Settled, by-equation, _&_, both}
 
 pub fresh-one : OneAnswer fresh.Learnt
@@ -13,9 +12,6 @@ fresh-one = by-equation (λ κs a r s p. p)
 
 pub is-sound-one : OneAnswer is-sound.Learnt
 is-sound-one = by-equation (λ κs a r s p. p)
-
-pub refusal-one : OneAnswer refusal.Learnt
-refusal-one = by-equation (λ κs a r s p. p)
 
 pub totals-one : OneAnswer totals.Learnt
 totals-one = by-equation (λ κs a r s p. p)

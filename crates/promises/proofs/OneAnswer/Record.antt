@@ -5,7 +5,7 @@ use Rattle.record.proofs.period.Reads as period
 use Rattle.record.proofs.kind.Reads as kind
 use Rattle.record.proofs.climate.Reads as climate
 use Rattle.record.proofs.is_coded.Reads as is-coded
-use Rattle.record.proofs.are_light.Reads as are-light
+use Rattle.record.proofs.is_light.Reads as is-light
 use Rattle.record.proofs.deposit.Reads as deposit
 use Rattle.promises.proofs.OneAnswer.{OneAnswer, by-equation}
 
@@ -27,8 +27,8 @@ climate-one = by-equation (λ κs a r s p. p)
 pub is-coded-one : OneAnswer is-coded.Learnt
 is-coded-one = by-equation (λ κs a r s p. p)
 
-pub are-light-one : OneAnswer are-light.Learnt
-are-light-one = by-equation (λ κs a r s p. p)
+pub is-light-one : OneAnswer is-light.Learnt
+is-light-one = by-equation (λ κs a r s p. p)
 
 pub deposit-one : OneAnswer deposit.Learnt
 deposit-one = by-equation (λ κs a r s p. p)

@@ -5,7 +5,7 @@ use borrow.Author.Needs.{needs}
 use borrow.Author.Tests.{not-true, not-false}
 use Rattle.stock.proofs.Laws.{sum-fits}
 use Rattle.ledger.specs.Stock.{broughtAt, stockAt}
-use Rattle.ledger.specs.Totals.{totalStock, totalBrought, totalsOf}
+use Rattle.ledger.specs.Take.{totalStock, totalBrought, totalsOf}
 use Rattle.ledger.proofs.Sound.{sound-is}
 use Rattle.ledger.proofs.book.Ledger.totals.Statement.{statement}
 use Rattle.ledger.proofs.book.Ledger.totals.Tie as tie

@@ -1,0 +1,41 @@
+-- One accepted record, place by place: the deposit goes into T and H, and H is parted into the new R and the release.
+use mathlib.Core.Path.{_≡_}
+use mathlib.Core.List.{List}
+use Prim.Native.Nat.{ℕ, _+_, _^_, _≤_, _<_}
+use native.Mathlib.Nat.{mul-le-mul-left}
+use native.Mathlib.Omega.{arith}
+use lib.ListN.{getD}
+use Rattle.numbers.proofs.Eight.{eight-at}
+use Rattle.record.specs.Fields.{kindOf, climateOf, depositOf}
+use Rattle.stock.specs.Stock.{entryAt}
+use Rattle.ledger.specs.Stock.{leftOf, broughtAt, stockAt, newBrought, held, newStock, release, after}
+use Rattle.stock.proofs.Laws.{entry-small}
+use Rattle.ledger.specs.Take.{acceptedOf}
+use Rattle.ledger.specs.declared.book.Ledger.{Ledger}
+
+-- What is left is at most what was held.
+pub left-most : (H D : ℕ) → D < 10 ^ 9 → leftOf H D ≤ H
+unfolding leftOf
+left-most H D h = omega (arith, mul-le-mul-left H h)
+
+module _ (l : Ledger) (bytes : List ℕ) (t : ℕ) (place : t < 8) where
+  pub brought-after : broughtAt (after l bytes) t ≡ broughtAt l t + depositOf bytes t
+  unfolding after newBrought
+  brought-after = eight-at (newBrought l bytes) t place
+
+  pub stock-after : stockAt (after l bytes) t ≡ leftOf (stockAt l t + depositOf bytes t) (entryAt (kindOf bytes) (climateOf bytes) t)
+  unfolding after newStock held
+  stock-after = eight-at (newStock l bytes) t place
+
+  pub released : getD (acceptedOf l bytes .releases) t 0 ≡ release l bytes t
+  unfolding acceptedOf
+  released = eight-at (release l bytes) t place
+
+  pub balanced : release l bytes t + stockAt (after l bytes) t ≡ stockAt l t + depositOf bytes t
+  unfolding release newStock held
+  balanced =
+      omega (
+        arith,
+        stock-after,
+        left-most (stockAt l t + depositOf bytes t) (entryAt (kindOf bytes) (climateOf bytes) t) (entry-small (kindOf bytes) (climateOf bytes) t),
+      )

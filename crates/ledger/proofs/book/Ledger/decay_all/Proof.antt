@@ -1,0 +1,50 @@
+-- Each type by itself, inert waste having no carbon; the releases of a sound ledger add up to less than 64 bits hold.
+use mathlib.Core.Path.{_≡_}
+use Prim.Native.Nat.{ℕ, _+_, _*_, _≤_, _<_}
+use native.Mathlib.Omega.{arith}
+use lib.Dec.{lit<}
+use borrow.Author.Needs.{needs}
+use Rattle.stock.specs.Stock.{mostBrought}
+use Rattle.ledger.specs.Stock.{decayedAt}
+use Rattle.ledger.specs.declared.period.Decayed.{Decayed}
+use Rattle.ledger.proofs.Settle.{all-decayed, seven-small}
+use Rattle.ledger.proofs.Accepted.{accepted, new-small, no-carbon}
+use Rattle.ledger.proofs.book.Ledger.decay_all.Statement.{statement}
+use Rattle.ledger.proofs.book.Ledger.decay_all.Tie as tie
+
+one : (s : tie.Start) {d : Decayed} (t : ℕ) → t < 8 → d ≡ decayedAt (s .args .self) (s .args .bytes .now) t → d .release ≤ mostBrought
+unfolding decayedAt
+one s t h e =
+    let l = s .args .self in
+    let bytes = s .args .bytes .now in
+    rw e (new-small l bytes (accepted l bytes 48 (s .pre .0)) t h .G)
+
+-- what the releases are at most
+each : (c : tie.After-decay7) → c .before .before .before .before .before .before .decay .result .release + c .before .before .before .before .before .decay2 .result .release + c .before .before .before .before .decay3 .result .release + c .before .before .before .decay4 .result .release + c .before .before .decay5 .result .release + c .before .decay6 .result .release + c .decay7 .result .release ≤ 7 * mostBrought
+each c =
+    let s = c .before .before .before .before .before .before .before .before in
+    seven-small (one s 0 (lit< tt) (c .before .before .before .before .before .before .decay .ensures)) (one s 1 (lit< tt) (c .before .before .before .before .before .decay2 .ensures)) (one s 2 (lit< tt) (c .before .before .before .before .decay3 .ensures))
+    (one s 3 (lit< tt) (c .before .before .before .decay4 .ensures)) (one s 4 (lit< tt) (c .before .before .decay5 .ensures)) (one s 6 (lit< tt) (c .before .decay6 .ensures)) (one s 7 (lit< tt) (c .decay7 .ensures))
+
+returns : tie.Need-returns
+returns c =
+    let d = c .before .before .before .before .before .before .before in
+    let s = d .before .before .before .before .before .before .before .before in
+    let l = s .args .self in
+    let bytes = s .args .bytes .now in
+    all-decayed l bytes (no-carbon l bytes (accepted l bytes 48 (s .pre .0))) (d .before .before .before .before .before .before .decay .ensures) (d .before .before .before .before .before .decay2 .ensures) (d .before .before .before .before .decay3 .ensures)
+    (d .before .before .before .decay4 .ensures) (d .before .before .decay5 .ensures) (d .before .decay6 .ensures) (d .decay7 .ensures)
+
+pub decay-all-spec : {M : Type 1} → statement M
+decay-all-spec =
+    tie.close
+    (tie.spec (λ c κs. search needs) (λ c κs. search needs) (λ c κs. search needs) (λ c κs. search needs)
+    (λ c κs. search needs) (λ c κs. search needs)
+    (λ c κs. let s = c .before .before .before .before .before .before .before in ((s .pre .0, omega arith), s .pre .1))
+    (λ c. omega (arith, each (c .before .before)))
+    (λ c. omega (arith, each (c .before .before .before)))
+    (λ c. omega (arith, each (c .before .before .before .before)))
+    (λ c. omega (arith, each (c .before .before .before .before .before .before)))
+    (λ c. omega (arith, each (c .before .before .before .before .before .before .before)))
+    (λ c. omega (arith, each (c .before .before .before .before .before .before .before)))
+    returns)

@@ -1,0 +1,27 @@
+// What a step, a run and the totals answer.
+use crate::book::Ledger;
+
+// The ledger that comes back, the refusal (0 if none), and of an accepted record the eight releases in mg, their sum x0 in mg,
+// the figure and its bound in grams CO2e.
+pub struct Answer {
+    pub ledger: Ledger,
+    pub refusal: u8,
+    pub releases: [u64; 8],
+    pub x0: u64,
+    pub figure: u64,
+    pub bound: u64,
+}
+
+// The ledger after the last accepted record, how many records were accepted, and the refusal of the next one, 0 if none.
+pub struct Outcome {
+    pub ledger: Ledger,
+    pub accepted: u64,
+    pub refusal: u8,
+}
+
+// The refusal (3 for an unsound ledger, else 0), and the carbon left and brought in over all types, in mg.
+pub struct Totals {
+    pub refusal: u8,
+    pub stock: u64,
+    pub brought: u64,
+}

@@ -1,4 +1,0 @@
-pub mod Period
-pub mod Take
-pub mod History
-pub mod Reach
