@@ -11,6 +11,7 @@ pub mod Figure
 pub mod Ledger
 pub mod Image
 pub mod Door
+pub mod Chart
 pub mod Line
 pub mod Lines
 pub mod Calls
