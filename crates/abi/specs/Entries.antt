@@ -6,8 +6,8 @@ use lib.Dec.{eqb}
 use lib.Ieee.{Float}
 use lib.ListN.{length, replicate}
 use Rattle.image.specs.Image.{imageBytes}
-use Rattle.door.specs.declared.cell.Cell.{Cell}
-use Rattle.door.specs.declared.cell.Cell.the-variants.{Empty, Number}
+use Rattle.door.specs.declared.Cell.{Cell}
+use Rattle.door.specs.declared.Cell.the-variants.{Empty, Number}
 
 -- A fresh image, or 3 for a buffer that is not 136 bytes.
 unfoldable pub freshLeft : List ℕ → List ℕ

@@ -4,9 +4,9 @@ ghost use mathlib.Core.Bool.{cond};
 ghost use mathlib.Core.Path.{_≡_};
 ghost use lib.Dec.{eqb};
 ghost use lib.ListN.{length};
+ghost use Rattle.chart.specs.Point.{chartedOf};
 ghost use Rattle.decay.specs.Series.{entryOf};
 ghost use Rattle.door.specs.Cell.{answerTo};
-ghost use Rattle.door.specs.Point.{chartedOf};
 ghost use Rattle.ledger.specs.History.{outOf};
 ghost use Rattle.ledger.specs.Take.{totalsOf};
 ghost use Rattle.image.specs.Image.{imageBytes, ledgerOf};
@@ -112,7 +112,7 @@ pub extern "C" fn landfill_point(
     ensures { λ _. ⌜ now (low .exit) ≡ chartedOf figure bound .point .low ⌝ }
     ensures { λ _. ⌜ now (high .exit) ≡ chartedOf figure bound .point .high ⌝ }
 {
-    let charted = door::chart(figure, bound);
+    let charted = chart::chart(figure, bound);
     let point = charted.point;
     *at = point.figure;
     *low = point.low;

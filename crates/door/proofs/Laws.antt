@@ -1,25 +1,21 @@
--- What holds of every cell and every point.
+-- What holds of every cell.
 use mathlib.Core.Path.{_≡_, refl, sym, ap, _∙_}
 use mathlib.Core.Bool.{Bool, true, false, cond}
-use Prim.Native.Nat.{ℕ, suc, _+_, _-_, _≤_}
+use Prim.Native.Nat.{ℕ, suc, _^_, _≤_}
 use native.Mathlib.Nat.{mul-one, le-trans}
 use native.Mathlib.Omega.{arith}
-use lib.Dec.{T, leb, eqb, lit≤, lit<}
+use lib.Dec.{leb, eqb, lit≤, lit<}
 use lib.IntN.{pos, negsuc}
-use lib.Ieee.{Float, binary64, round, le, ofInt}
+use lib.Ieee.{Float, binary64, round, ofInt}
 use lib.Ieee.Back.{round-whole}
-use lib.Ieee.Order.{round-mono}
 use borrow.Author.Tests.{le-leb, leb-true}
 use Rattle.waste.specs.Waste.{massLimit}
 use Rattle.door.specs.Cell.{Whole, whole, not-whole, wholeOf, refused, accepted, numbersOf, answerToNumber, answerTo}
-use Rattle.door.specs.Point.{exact, floatOf, pointOf, chartedOf}
-use Rattle.door.specs.declared.cell.Cell.{Cell}
-use Rattle.door.specs.declared.cell.Cell.the-variants.{Empty, Number}
-use Rattle.door.specs.declared.cell.Numbers.{Numbers}
-use Rattle.door.specs.declared.cell.Weighed.{Weighed}
-use Rattle.door.specs.declared.cell.Weighed.the-variants.{Mass, EmptyCell, NotWhole, OutOfRange}
-use Rattle.door.specs.declared.point.Charted.{Charted}
-use Rattle.door.specs.declared.point.Point.{Point}
+use Rattle.door.specs.declared.Cell.{Cell}
+use Rattle.door.specs.declared.Cell.the-variants.{Empty, Number}
+use Rattle.door.specs.declared.Numbers.{Numbers}
+use Rattle.door.specs.declared.Weighed.{Weighed}
+use Rattle.door.specs.declared.Weighed.the-variants.{Mass, EmptyCell, NotWhole, OutOfRange}
 use Rattle.door.proofs.Whole.{is-whole}
 
 -- the case of the answer that has these numbers
@@ -38,13 +34,13 @@ pub one-answer : (cell : Cell) (a b : Weighed) → numbersOf a ≡ answerTo cell
 one-answer cell a b p q = sym (same-case a) ∙ ap caseOf (p ∙ sym q) ∙ same-case b
 
 -- The float of a whole number up to 2^53 is exactly that number.
-pub float-exact : (n : ℕ) → n ≤ exact → wholeOf (floatOf n) ≡ whole (pos n)
+pub float-whole : (n : ℕ) → n ≤ 2 ^ 53 → wholeOf (ofInt binary64 (pos n)) ≡ whole (pos n)
 unfolding ofInt
-float-exact n h = is-whole (round binary64 false n 1) false n 1 (lit< tt) (rw mul-one (round-whole binary64 false n (omega arith)))
+float-whole n h = is-whole (round binary64 false n 1) false n 1 (lit< tt) (rw mul-one (round-whole binary64 false n h))
 
 -- A mass made a float and read back through a cell is that mass.
-pub mass-read-back : (mass : ℕ) → mass ≤ massLimit → numbersOf (Mass mass) ≡ answerTo (Number (floatOf mass))
-mass-read-back mass h = rw (float-exact mass (le-trans h (lit≤ tt)), le-leb mass massLimit h)
+pub mass-read-back : (mass : ℕ) → mass ≤ massLimit → numbersOf (Mass mass) ≡ answerTo (Number (ofInt binary64 (pos mass)))
+mass-read-back mass h = rw (float-whole mass (le-trans h (lit≤ tt)), le-leb mass massLimit h)
 
 never : {A : Type 0} (mass n : ℕ) → accepted mass ≡ refused (suc n) → A
 never mass n p = let z : 0 ≡ suc n = ap (λ (r : Numbers). r .refusal) p in absurd (omega arith)
@@ -63,41 +59,10 @@ accepted-number w mass p = at w p
     at (whole (pos n)) p = within (leb n massLimit) n (leb-true n massLimit) p
 
 -- A cell that is read as a mass, and the mass made a float, are the same number.
-pub cell-read-back : (kg : Float) (mass : ℕ) → numbersOf (Mass mass) ≡ answerTo (Number kg) → wholeOf (floatOf mass) ≡ wholeOf kg
-cell-read-back kg mass p = let h = accepted-number (wholeOf kg) mass p in float-exact mass (le-trans (h .1) (lit≤ tt)) ∙ sym (h .0)
+pub cell-read-back : (kg : Float) (mass : ℕ) → numbersOf (Mass mass) ≡ answerTo (Number kg) → wholeOf (ofInt binary64 (pos mass)) ≡ wholeOf kg
+cell-read-back kg mass p = let h = accepted-number (wholeOf kg) mass p in float-whole mass (le-trans (h .1) (lit≤ tt)) ∙ sym (h .0)
 
 -- No cell gives a mass above 10^9.
 pub mass-within-limit : (cell : Cell) (mass : ℕ) → numbersOf (Mass mass) ≡ answerTo cell → mass ≤ massLimit
 mass-within-limit Empty mass p = never mass 9 p
 mass-within-limit (Number kg) mass p = accepted-number (wholeOf kg) mass p .1
-
--- Each float of a point equals its whole number exactly.
-pub record Exact (point : Point) (figure bound : ℕ) : Type 0 where
-  pub figure-exact : wholeOf (point .figure) ≡ whole (pos figure)
-  pub low-exact : wholeOf (point .low) ≡ whole (pos (figure - bound))
-  pub high-exact : wholeOf (point .high) ≡ whole (pos (figure + bound))
-
-pub point-exact : (figure bound : ℕ) → figure + bound ≤ exact → Exact (chartedOf figure bound .point) figure bound
-point-exact figure bound h = rw (le-leb (figure + bound) exact h) (record {
-  figure-exact = float-exact figure (omega arith);
-  low-exact = float-exact (figure - bound) (omega arith);
-  high-exact = float-exact (figure + bound) h;
-})
-
--- The low edge is at most the figure, and the figure at most the high edge.
-pub record InOrder (point : Point) : Type 0 where
-  pub low-first : T (le (point .low) (point .figure))
-  pub high-last : T (le (point .figure) (point .high))
-
-pub edges-in-order : (figure bound : ℕ) → InOrder (chartedOf figure bound .point)
-edges-in-order figure bound = either (leb (figure + bound) exact) _ _ (in-order figure bound) (in-order 0 0)
-  where
-    rises : (a b : ℕ) → a ≤ b → T (le (floatOf a) (floatOf b))
-    rises a b h = unfold ofInt in round-mono binary64 a 1 b 1 (lit< tt) (lit< tt) (omega arith)
-
-    in-order : (figure bound : ℕ) → InOrder (pointOf figure bound)
-    in-order figure bound = record { low-first = rises (figure - bound) figure (omega arith); high-last = rises figure (figure + bound) (omega arith) }
-
-    either : (b : Bool) (x y : Charted) → InOrder (x .point) → InOrder (y .point) → InOrder ((cond {A = Charted} b x y) .point)
-    either true x y p q = p
-    either false x y p q = q

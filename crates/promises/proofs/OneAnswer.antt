@@ -8,9 +8,11 @@ pub mod Record
 pub mod Output
 pub mod Stock
 pub mod Figure
+pub mod Refusal
 pub mod Ledger
 pub mod Image
 pub mod Door
+pub mod Chart
 pub mod Line
 pub mod Lines
 pub mod Calls

@@ -2,7 +2,7 @@
 use mathlib.Core.Path.{ap, _∙_}
 use borrow.Author.Needs.{needs}
 use borrow.Author.Tests.{eq-eqb, ne-eqb}
-use Rattle.door.specs.declared.cell.Numbers.{Numbers}
+use Rattle.door.specs.declared.Numbers.{Numbers}
 use Rattle.abi.proofs.landfill_cell.Statement.{statement}
 use Rattle.abi.proofs.landfill_cell.Tie as tie
 

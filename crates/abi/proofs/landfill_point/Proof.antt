@@ -1,7 +1,7 @@
 -- The chart's point, number by number.
 use mathlib.Core.Path.{ap}
 use borrow.Author.Needs.{needs}
-use Rattle.door.specs.declared.point.Charted.{Charted}
+use Rattle.chart.specs.declared.Charted.{Charted}
 use Rattle.abi.proofs.landfill_point.Statement.{statement}
 use Rattle.abi.proofs.landfill_point.Tie as tie
 

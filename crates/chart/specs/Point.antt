@@ -4,8 +4,8 @@ use mathlib.Core.Bool.{cond}
 use lib.Dec.{leb}
 use lib.IntN.{pos}
 use lib.Ieee.{Float, binary64, ofInt}
-use Rattle.door.specs.declared.point.Charted.{Charted}
-use Rattle.door.specs.declared.point.Point.{Point}
+use Rattle.chart.specs.declared.Charted.{Charted}
+use Rattle.chart.specs.declared.Point.{Point}
 
 -- Two to the 53, the highest edge.
 abbrev pub exact : ℕ

@@ -7,9 +7,9 @@ use native.Mathlib.Omega.{arith}
 use lib.Dec.{T, le→leb}
 use lib.IntN.{pos}
 use lib.Ieee.{binary64, inFloat, ofBits, ofInt}
-use Rattle.door.specs.Point.{exact}
-use Rattle.door.proofs.point.chart.Statement.{statement}
-use Rattle.door.proofs.point.chart.Tie as tie
+use Rattle.chart.specs.Point.{exact}
+use Rattle.chart.proofs.chart.Statement.{statement}
+use Rattle.chart.proofs.chart.Tie as tie
 
 -- what a cast to a float asks of a whole number
 held : (n : ℕ) → n ≤ exact → T (inFloat binary64 (pos n))

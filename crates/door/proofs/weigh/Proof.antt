@@ -8,8 +8,8 @@ use lib.Ieee.Bits.{ofBits-toBits}
 use lib.Ieee.Compare.{differs-from-itself}
 use denote.Floats.{passes}
 use Rattle.door.specs.Cell.{wholeOf, answerTo, answerToNumber}
-use Rattle.door.proofs.cell.weigh.Statement.{statement}
-use Rattle.door.proofs.cell.weigh.Tie as tie
+use Rattle.door.proofs.weigh.Statement.{statement}
+use Rattle.door.proofs.weigh.Tie as tie
 
 -- the number in the cell
 abbrev kg : tie.After-known-told → Float

@@ -2,8 +2,8 @@
 use borrow.Author.Needs.{needs}
 use mathlib.Core.Path.{sym, ap}
 use Rattle.door.specs.Cell.{numbersOf}
-use Rattle.door.proofs.cell.Weighed.numbers.Statement.{statement}
-use Rattle.door.proofs.cell.Weighed.numbers.Tie as tie
+use Rattle.door.proofs.Weighed.numbers.Statement.{statement}
+use Rattle.door.proofs.Weighed.numbers.Tie as tie
 
 pub numbers-spec : {M : Type 1} → statement M
 numbers-spec =

@@ -1,8 +1,11 @@
-// A point of the chart: a figure and the edges that its bound gives it.
+// The points of the sheet's chart: a figure and the edges that its bound gives it.
+// It serves the second paragraph of "The spreadsheet door" of document 01, and is called by the package that draws the sheet.
 ghost use mathlib.Core.Path.{_≡_};
 ghost use Prim.Native.Nat.{_-_};
-ghost use Rattle.door.specs.Point.{chartedOf};
-use crate::EXACT;
+ghost use Rattle.chart.specs.Point.{chartedOf};
+
+// Two to the 53: each whole number up to here is a float exactly.
+pub const EXACT: u64 = 9_007_199_254_740_992;
 
 // A figure with its low edge and its high edge, in grams CO2e.
 pub struct Point {

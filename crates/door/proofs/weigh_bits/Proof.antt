@@ -4,8 +4,8 @@ use borrow.Author.Tests.{leb-true, leb-false}
 use native.Mathlib.Omega.{arith}
 use lib.Ieee.{binary64, ofBits}
 use Rattle.door.proofs.Bits.{with-point, zero-is-0, below-one-11, not-finite-11, large-12}
-use Rattle.door.proofs.cell.weigh_bits.Statement.{statement}
-use Rattle.door.proofs.cell.weigh_bits.Tie as tie
+use Rattle.door.proofs.weigh_bits.Statement.{statement}
+use Rattle.door.proofs.weigh_bits.Tie as tie
 
 pub weigh-bits-spec : {M : Type 1} → statement M
 weigh-bits-spec =

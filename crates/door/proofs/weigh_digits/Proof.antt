@@ -5,8 +5,8 @@ use Prim.Native.Nat.{ℕ, _*_, _/_, _^_}
 use native.Mathlib.Nat.{div-add-mod', div-mul-le-self}
 use native.Mathlib.Omega.{arith}
 use Rattle.door.proofs.Whole.{fraction-11, minus-12, above-12, mass-is}
-use Rattle.door.proofs.cell.weigh_digits.Statement.{statement}
-use Rattle.door.proofs.cell.weigh_digits.Tie as tie
+use Rattle.door.proofs.weigh_digits.Statement.{statement}
+use Rattle.door.proofs.weigh_digits.Tie as tie
 
 abbrev kg : tie.Start → ℕ
 kg c = c .args .digits / 2 ^ c .args .behind
