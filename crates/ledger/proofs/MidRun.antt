@@ -18,7 +18,7 @@ use Rattle.refusal.specs.Refusal.{faultsOf}
 use Rattle.ledger.specs.Stock.{after}
 use Rattle.ledger.specs.Refusal.{sound, refusalOf}
 use Rattle.ledger.specs.Take.{acceptedOf, outputRecord}
-use Rattle.ledger.specs.Reach.{reachOf, leftOver}
+use Rattle.refusal.specs.Reach.{reachOf, leftOver}
 use Rattle.ledger.specs.History.{Turn, outputs, recordsOf, runOf, outcomeOf, outOf}
 use Rattle.ledger.specs.declared.book.Ledger.{Ledger}
 use Rattle.ledger.proofs.Accepted.{accepted, was-sound, has-room, accepted-sound, room-alike, early, refused-early, refused-late}

@@ -2,4 +2,3 @@ pub mod Stock
 pub mod Refusal
 pub mod Take
 pub mod History
-pub mod Reach

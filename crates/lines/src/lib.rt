@@ -11,7 +11,7 @@ ghost use lib.ListN.{length};
 ghost use Rattle.lines.specs.Listing.{mostLines, listedOf, textOf, LendableText};
 
 // The most lines that a file can have: one more than a ledger takes records.
-const LINES: usize = Ledger::RECORDS as usize + 1;
+pub const LINES: usize = Ledger::RECORDS as usize + 1;
 
 // How many bytes the listing has, and the refusal: 2 where the text has too little room, else 0.
 pub struct Listed {

@@ -4,8 +4,8 @@ use libc::STDIN_FILENO;
 use libc::STDOUT_FILENO;
 ghost use Rattle.io.specs.Counts.{Counts};
 
-// The records that can matter: a ledger takes 1200, so record 1201 is refused at the latest.
-const RECORDS: usize = 1201;
+// The records that can matter: one more than a ledger takes is refused at the latest.
+const RECORDS: usize = lines::LINES;
 
 // Their bytes.
 const FILE_BYTES: usize = 48 * RECORDS;

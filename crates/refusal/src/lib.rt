@@ -1,4 +1,8 @@
 // The refusals of a record by their numbers: 'Refusal numbers' of document 01. The ledger asks it, with its own n, kind and climate.
+mod file;
+
+pub use file::left_over;
+pub use file::reach;
 ghost use mathlib.Core.Path.{_≡_};
 ghost use Rattle.numbers.specs.Fault.{firstOf, ahead};
 ghost use Rattle.refusal.specs.Refusal.{continues, faultsOf};

@@ -96,7 +96,7 @@ returns : tie.Need-returns Inv-loop μ-loop Inv-records μ-records
 returns c =
     let h = c .before .before .before in
     let end = at-last (h .records .inv .0) (rw (h .records .inv .0 .as-long) (c .before .before .if1 .taken ∙ h .before .reach .ensures)) in
-    (rw (c .left-over .ensures) (end .0), end .1)
+    (rw (c .before .left-over .ensures) (end .0), end .1)
 
 returns-2 : tie.Need-returns-2 Inv-loop μ-loop Inv-records μ-records
 returns-2 c =
@@ -117,7 +117,7 @@ run-spec =
     tie.close
     (tie.spec Inv-loop μ-loop Inv-records μ-records (λ c κs. search needs) (λ c κs. search needs) (λ c κs. search needs)
     (λ c. (run-starts _ _ _ _ _ (c .before .before .is-sound .ensures) (c .before .run-entries .ensures), omega arith))
-    (λ c. omega (arith, c .before .before .records .inv .0 .grown)) (λ c. search needs) (λ c. c .before .before .records .inv .0 .in-file) (λ c κs. search needs)
+    (λ c. c .before .records .inv .0 .in-file) (λ c κs. search needs) (λ c. omega (arith, c .before .before .before .records .inv .0 .grown)) (λ c. search needs)
     (λ c. omega (arith, ready c .in-file, c .before .before .before .before .before .before .before)) (λ c. search needs) (λ c. search needs) (λ c. let b = ready c .in-file in search needs) (λ c κs. search needs)
     (λ c. omega (arith, c .before .before .before .before .before .records .inv .0 .grown)) (λ c. search needs)
     (λ c. (search needs, λ k l. absurd (omega arith))) (λ c κs. search needs)

@@ -1,9 +1,9 @@
 -- The lesser of the two, in whole records.
 use borrow.Author.Needs.{needs}
 use borrow.Author.Tests.{lt-ltb, le-ltb}
-use Rattle.ledger.specs.Reach.{reachOf}
-use Rattle.ledger.proofs.file.reach.Statement.{statement}
-use Rattle.ledger.proofs.file.reach.Tie as tie
+use Rattle.refusal.specs.Reach.{reachOf}
+use Rattle.refusal.proofs.file.reach.Statement.{statement}
+use Rattle.refusal.proofs.file.reach.Tie as tie
 
 pub reach-spec : {M : Type 1} → statement M
 unfolding reachOf

@@ -1,8 +1,8 @@
 -- The two tests, one after the other.
 use borrow.Author.Tests.{eq-eqb, ne-eqb, lt-ltb, le-ltb}
-use Rattle.ledger.specs.Reach.{leftOver}
-use Rattle.ledger.proofs.file.left_over.Statement.{statement}
-use Rattle.ledger.proofs.file.left_over.Tie as tie
+use Rattle.refusal.specs.Reach.{leftOver}
+use Rattle.refusal.proofs.file.left_over.Statement.{statement}
+use Rattle.refusal.proofs.file.left_over.Tie as tie
 
 pub left-over-spec : {M : Type 1} → statement M
 unfolding leftOver
