@@ -10,6 +10,7 @@ ghost use Rattle.door.specs.Cell.{answerTo};
 ghost use Rattle.ledger.specs.History.{outOf};
 ghost use Rattle.ledger.specs.Take.{totalsOf};
 ghost use Rattle.image.specs.Image.{imageBytes, ledgerOf};
+ghost use Rattle.samples.specs.Samples.{sortedOf};
 ghost use Rattle.lines.specs.Listing.{listedOf, textOf};
 ghost use Rattle.calls.specs.Calls.{takeHere, takeImage, takeOut, takeAnswer, runHere, runImage};
 ghost use Rattle.abi.specs.Entries.{freshLeft, cellOf};
@@ -96,6 +97,17 @@ pub extern "C" fn landfill_cell(filled: u8, kg: f64, mass: &mut u32) -> u8
     };
     *mass = numbers.mass;
     numbers.refusal
+}
+
+// Answers 0 and the masses of types 1 to 8 in kilograms into which samples part a total, or 14, 15 or 16 and zeros.
+#[no_mangle]
+pub extern "C" fn landfill_masses(kind: u8, total: u64, samples: &[u8], masses: &mut [u32; 8]) -> u8
+    ensures { λ r. ⌜ r ≡ sortedOf kind total (now (samples .entry)) .refusal ⌝ }
+    ensures { λ _. ⌜ now (masses .exit) ≡ sortedOf kind total (now (samples .entry)) .masses ⌝ }
+{
+    let sorted = samples::masses(kind, total, samples);
+    *masses = sorted.masses;
+    sorted.refusal
 }
 
 // Answers 0 and a figure's point of the chart, or 13 and zeros.

@@ -1,8 +1,8 @@
 -- Laws of the eight numbers, and of sums and tests over places: one more place, and each place.
 use mathlib.Core.Path.{_≡_, refl, ap, _∙_}
-use mathlib.Core.Bool.{Bool, true, false, _&&_, and-false}
+use mathlib.Core.Bool.{Bool, true, false, _&&_, _||_, and-false}
 use mathlib.Core.List.{List, [], _∷_}
-use mathlib.Core.Logic.{⊎-elim}
+use mathlib.Core.Logic.{_⊎_, inl, inr, ⊎-elim}
 use Prim.Native.Nat.{ℕ, zero, suc, _+_, _*_, _≤_, _<_}
 use native.Mathlib.Nat.{add-zero, add-suc, suc-add, zero-add, eq-or-lt-of-le, le-of-suc-le-suc}
 use native.Mathlib.Numerals.{add-one}
@@ -27,6 +27,20 @@ pub sum-most : (f : ℕ → ℕ) (b k : ℕ) → ((t : ℕ) → t < k → f t �
 sum-most f b zero h = omega arith
 sum-most f b (suc k) h = omega (arith, sum-most f b k (λ t l. h t (omega arith)), h k (omega arith))
 
+-- A sum of equal numbers, one of smaller numbers, and a part of a sum.
+pub sum-each : (f : ℕ → ℕ) (b k : ℕ) → ((t : ℕ) → t < k → f t ≡ b) → sumOf f k ≡ k * b
+sum-each f b zero h = omega arith
+sum-each f b (suc k) h = omega (arith, sum-each f b k (λ t l. h t (omega arith)), h k (omega arith))
+
+pub sum-at-most : (f g : ℕ → ℕ) (k : ℕ) → ((t : ℕ) → t < k → f t ≤ g t) → sumOf f k ≤ sumOf g k
+sum-at-most f g zero h = omega arith
+sum-at-most f g (suc k) h = omega (arith, sum-at-most f g k (λ t l. h t (omega arith)), h k (omega arith))
+
+pub sum-part : (f : ℕ → ℕ) (j k : ℕ) → j ≤ k → sumOf f j ≤ sumOf f k
+sum-part f j zero h = let e : j ≡ 0 = omega arith in rw e (omega arith)
+sum-part f j (suc k) h =
+    ⊎-elim (λ e. rw e (omega arith)) (λ lt. omega (arith, sum-part f j k (le-of-suc-le-suc lt))) (eq-or-lt-of-le h)
+
 -- f s, f (s + 1), .., k of them
 abbrev run : (ℕ → ℕ) → ℕ → ℕ → List ℕ
 run f s zero = []
@@ -43,6 +57,10 @@ eight-at f t h = rw (zero-add t) at (run-at f 0 8 t h)
 pub both-true : (a b : Bool) → (a && b) ≡ true → (a ≡ true) × (b ≡ true)
 both-true true b e = (refl, e)
 both-true false b e = (e, cc)
+
+pub either-true : (a b : Bool) → (a || b) ≡ true → (a ≡ true) ⊎ (b ≡ true)
+either-true true b e = inl refl
+either-true false b e = inr e
 
 -- Where all of some tests hold, each does.
 abbrev pub AllTrue : List Bool → Type 0
@@ -70,6 +88,14 @@ module _ (test : ℕ → Bool) where
 
   pub every-more : (k : ℕ) → everyOf test k ≡ true → test k ≡ true → everyOf test (k + 1) ≡ true
   every-more k h e = cc (add-one k)
+
+  pub every-fewer : (n k : ℕ) → n ≤ k → everyOf test n ≡ false → everyOf test k ≡ false
+  every-fewer n zero l h = let e : n ≡ 0 = omega arith in rw e at h
+  every-fewer n (suc k) l h =
+      ⊎-elim
+      (λ e. rw e at h)
+      (λ lt. ap (λ (b : Bool). b && test k) (every-fewer n k (le-of-suc-le-suc lt) h))
+      (eq-or-lt-of-le l)
 
   pub every-each : (k : ℕ) → ((t : ℕ) → t < k → test t ≡ true) → everyOf test k ≡ true
   every-each zero h = refl

@@ -1,0 +1,58 @@
+-- The answer by what was tested: each refusal where those ahead of it are not there, and the masses where none is.
+use mathlib.Core.Path.{_≡_, refl, ap}
+use mathlib.Core.Bool.{Bool, true, false, _&&_}
+use mathlib.Core.List.{List, _∷_}
+use mathlib.Core.Logic.{⊎-elim}
+use Prim.Native.Nat.{ℕ, _+_, _-_, _*_, _/_, _%_, _≤_, _<_}
+use native.Mathlib.Omega.{arith}
+use borrow.Author.Tests.{eqb-true, le-ltb, lt-ltb}
+use lib.Dec.{eqb}
+use lib.ListN.{length, getD}
+use Rattle.numbers.specs.Eight.{eight, everyOf}
+use Rattle.numbers.specs.Fault.{between}
+use Rattle.numbers.proofs.Eight.{both-true, either-true}
+use Rattle.numbers.proofs.Fault.{between-low, between-high}
+use Rattle.waste.specs.Waste.{massLimit}
+use Rattle.samples.specs.Samples.{sampleBytes, wholeSample, rightNumber, addsUp, P, numberOf, massUpTo, massOfType, sampleFaults, sortedInto, unsorted, sortedOf}
+use Rattle.samples.proofs.Laws.{no-type}
+
+-- Whether the bytes are the samples that the kind has to have.
+abbrev pub Right : (kind : ℕ) → List ℕ → Bool → Type 0
+Right kind samples answer = (rightNumber kind (numberOf samples) && eqb (length samples % sampleBytes) 0) ≡ answer
+
+-- Then they are 3 to 400.
+pub number-within : (kind : ℕ) (samples : List ℕ) → Right kind samples true → (3 ≤ numberOf samples) × (numberOf samples ≤ 400)
+number-within kind samples right =
+    let Z = numberOf samples in
+    ⊎-elim
+    (λ year. let within = both-true (eqb kind 1) (between 12 Z 400) year .1 in
+    (omega (arith, between-low 12 Z 400 within), between-high 12 Z 400 within))
+    (λ month. let three = eqb-true Z 3 (both-true (eqb kind 2) (eqb Z 3) month .1) in (omega arith, omega arith))
+    (either-true (eqb kind 1 && between 12 Z 400) (eqb kind 2 && eqb Z 3) (both-true (rightNumber kind Z) (eqb (length samples % sampleBytes) 0) right .0))
+
+module _ (kind total : ℕ) (samples : List ℕ) where
+  pub too-large : massLimit < total → unsorted 14 ≡ sortedOf kind total samples
+  unfolding sortedOf sampleFaults
+  too-large h = simp (lt-ltb massLimit total h)
+
+  module _ (h : total ≤ massLimit) where
+    pub wrong-number : Right kind samples false → unsorted 15 ≡ sortedOf kind total samples
+    unfolding sortedOf sampleFaults
+    wrong-number e = simp (le-ltb massLimit total h, e)
+
+    module _ (right : Right kind samples true) where
+      pub not-whole : everyOf (addsUp samples) (numberOf samples) ≡ false → unsorted 16 ≡ sortedOf kind total samples
+      unfolding sortedOf sampleFaults
+      not-whole e = simp (le-ltb massLimit total h, right, e)
+
+      pub taken : everyOf (addsUp samples) (numberOf samples) ≡ true
+          → sortedInto (eight (λ t. massOfType samples total (t + 1))) ≡ sortedOf kind total samples
+      unfolding sortedOf sampleFaults
+      taken e = simp (le-ltb massLimit total h, right, e)
+
+-- What `part` makes of the fractions is the masses.
+pub parted : (total : ℕ) (samples fractions : List ℕ) → fractions ≡ eight (λ t. P samples (numberOf samples) (t + 1))
+    → let whole = wholeSample * numberOf samples in
+    eight (λ t. total * getD fractions t 0 / whole - total * getD (0 ∷ fractions) t 0 / whole) ≡ eight (λ t. massOfType samples total (t + 1))
+unfolding massOfType massUpTo
+parted total samples fractions e = rw (e, no-type samples (numberOf samples))
