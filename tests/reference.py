@@ -1,4 +1,4 @@
-"""Documents 01 and 02 worked out a second time, in whole numbers and fractions, to run the Rattle code against.
+"""Document 01 and request a of document 02 worked out a second time, in exact numbers, to run the Rattle code against.
 
 One function for each rule, in the documents' order and with their letters. Everything is a value: an output
 buffer goes in as bytes and comes back as bytes. Type j stands at place j - 1 of every list of eight.
