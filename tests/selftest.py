@@ -303,14 +303,14 @@ def main():
     run_only()
     listing_sample()
     door()
+    samples_counted()
+    samples_added_up()
     tables()
     unlikely()
     rng = random.Random(1)
     for kind, climate in KINDS_AND_CLIMATES:
         for part in (Fraction(0), Fraction(rng.randint(1, 98), 99), 1 - Fraction(1, 10**9), 1 - Fraction(1, 10**40)):
             demand_3(rng, kind, climate, part)
-    samples_counted()
-    samples_added_up()
     samples_at_fault(rng)
     for kind, Z in [(2, 3)] * 300 + [(1, rng.randint(12, 40)) for _ in range(50)] + [(1, 400)] * 3:
         sampled(fair_sorting(rng, kind, Z))
