@@ -69,6 +69,11 @@ def point_line(payload):
     return " ".join([str(refusal)] + [f"{bits:016x}" for bits in floats])
 
 
+def masses_line(payload):
+    refusal, masses = reference.masses(payload[0], number(payload, 1, 8), payload[9:])
+    return spaced([refusal, *masses])
+
+
 def fields(ledger):
     return [ledger.n, ledger.kind, ledger.climate, *ledger.T, *ledger.R]
 
@@ -94,6 +99,7 @@ KINDS = {
     "l": Kind(listing_line, 0, LONGEST),
     "c": Kind(cell_line, 9, 9),
     "p": Kind(point_line, 16, 16),
+    "m": Kind(masses_line, 9, LONGEST),
 }
 
 

@@ -50,8 +50,8 @@ def changed(fields, values, known):
     return fields._replace(**{name: value(known) if callable(value) else value for name, value in values.items()})
 
 
-def lent(number, field, *values):
-    """A fault for each length of the record or of the output."""
+def in_offer(number, field, *values):
+    """A fault for each value of a field of the offer itself."""
     return [Fault(number, field, lambda o, v=v: o._replace(**{field: v})) for v in values]
 
 
@@ -76,8 +76,8 @@ def one_mass(j, kg):
 
 
 FAULTS = [
-    *lent(1, "length", 0, 1, 47, 49, 96, 144),
-    *lent(2, "room", 0, 1, 47),
+    *in_offer(1, "length", 0, 1, 47, 49, 96, 144),
+    *in_offer(2, "room", 0, 1, 47),
     *(at_n(3, n) for n in (1201, 1202, 2048, 65535)),
     *(not_fresh(**{field: code}) for field in ("kind", "climate") for code in (1, 2, 255)),
     *(not_fresh(T=replaced(FRESH.T, j, 1)) for j in PLACES),

@@ -1,7 +1,7 @@
 #!/usr/bin/env python3
 """Writes cases for the program `cases` (docs/CASES.md), and the lines that the reference gives for them.
 
-  make_cases.py [--group base|door|all] [--seed N] [--out DIR]
+  make_cases.py [--group base|door|samples|all] [--seed N] [--out DIR]
   make_cases.py --store
   make_cases.py --check
 
@@ -21,9 +21,10 @@ from base_cases import base
 from cases import case
 from door_cases import door
 from reference import listing, little
+from samples_cases import samples
 
 ROOT = os.path.join(os.path.dirname(os.path.abspath(__file__)), "..")
-GROUPS = {"base": [base], "door": [door], "all": [base, door]}
+GROUPS = {"base": [base], "door": [door], "samples": [samples], "all": [base, door, samples]}
 FIRST = case("d", b"\1\1\0")
 STOPS = {
     "header": FIRST + FIRST[:4],

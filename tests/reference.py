@@ -1,12 +1,13 @@
-"""Document 01 worked out a second time, in whole numbers and fractions, to run the Rattle code against.
+"""Document 01 and request a of document 02 worked out a second time, in exact numbers, to run the Rattle code against.
 
-One function for each rule, in the document's order and with its letters. Everything is a value: an output
+One function for each rule, in the documents' order and with their letters. Everything is a value: an output
 buffer goes in as bytes and comes back as bytes. Type j stands at place j - 1 of every list of eight.
 """
 import os
 import sys
 from fractions import Fraction
 from functools import cache
+from itertools import accumulate, pairwise
 from typing import NamedTuple
 
 sys.path.insert(0, os.path.join(os.path.dirname(os.path.abspath(__file__)), "..", "tools"))
@@ -297,3 +298,46 @@ def listing(data):
             return text + f"refused {answer.refusal} at record {place}\n"
         text, ledger = text + line(read_record(offered).period, answer), answer.ledger
     return text
+
+
+# Document 02, request a: masses from sorting samples
+
+SAMPLE = 16  # bytes
+WHOLE = 10000  # what the fractions of a sample add up to, in hundredths of a percent
+SAMPLES = {1: (12, 400), 2: (3, 3)}  # least and most of them, by kind
+
+
+def fractions_of(samples):
+    """The eight fractions of each sample."""
+    starts = range(0, len(samples), SAMPLE)
+    return [tuple(number(samples, at, 2) for at in range(start, start + SAMPLE, 2)) for start in starts]
+
+
+def are_counted(kind, length):
+    """Whether refusal 15 does not hold: so many bytes are whole samples, and as many as the kind takes."""
+    if kind not in KINDS or length % SAMPLE != 0:
+        return False
+    least, most = SAMPLES[kind]
+    return least <= length // SAMPLE <= most
+
+
+def refusal_of_samples(kind, total, samples):
+    """The number of the first fault, or 0."""
+    if total > MASS_LIMIT:
+        return 14
+    if not are_counted(kind, len(samples)):
+        return 15
+    if any(sum(fractions) != WHOLE for fractions in fractions_of(samples)):
+        return 16
+    return 0
+
+
+def masses(kind, total, samples):
+    """The refusal, and the eight masses in kg that a total in kg and the bytes of its samples come to."""
+    refusal = refusal_of_samples(kind, total, samples)
+    if refusal:
+        return refusal, NONE
+    fractions = fractions_of(samples)
+    P = accumulate(map(sum, zip(*fractions)), initial=0)
+    up_to = [total * part // (WHOLE * len(fractions)) for part in P]
+    return 0, tuple(upper - lower for lower, upper in pairwise(up_to))

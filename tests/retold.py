@@ -1,4 +1,4 @@
-"""Document 01's step told a second time: the sources' tables as they stand there, and equation (1) of 000 in fractions.
+"""The documents told a second time: the sources' tables as they stand there, and equations of 000 in fractions.
 
 Row names, units and digits are the sources' own. Nothing here is taken from the reference, so that selftest.py sees
 a slip in a constant of either.
@@ -52,6 +52,10 @@ TYPES = (
 )
 
 PERIODS = {1: 1, 2: 12}  # in a year, by kind
+
+# Source 000, by kind: table 14's three samples every three months of a year, and the three of equation (8).
+LEAST_SAMPLES = {1: 3 * 4, 2: 3}
+
 DIGITS = Context(prec=50)
 
 
@@ -113,3 +117,16 @@ def step(ledger, record):
     R = tuple(floor(h * part) for h, part in zip(H, kept))
     G = tuple(h - r for h, r in zip(H, R))
     return T, R, G, sum(G), figure(record, sum(G)), bound(record, ledger.n + 1, T)
+
+
+def mean_shares(W, samples):
+    """Equations (5) to (8): W times p of each type, where p is the mean of its fractions, with no rounding."""
+    Z = len(samples)
+    p = [sum(Fraction(hundredths, 100) / 100 for hundredths in of_type) / Z for of_type in zip(*samples, strict=True)]
+    return tuple(W * mean for mean in p)
+
+
+def whole_masses(shares):
+    """Each type's kg: those of all types up to it, rounded down, less those of the types ahead of it."""
+    up_to = [floor(sum(shares[:j])) for j in range(9)]
+    return tuple(up_to[j] - up_to[j - 1] for j in range(1, 9))

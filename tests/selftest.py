@@ -1,5 +1,5 @@
 #!/usr/bin/env python3
-"""Holds the reference to all that document 01 prints, to the sources' own tables, and to demand 3 on random runs.
+"""Holds the reference to all that document 01 prints, to the sources' own tables and equations, and to demand 3.
 
 Prints ok and exits 0, or stops at the first check that fails.
 """
@@ -8,14 +8,18 @@ import random
 import struct
 from decimal import Decimal
 from fractions import Fraction
+from itertools import product
 from math import factorial
 
 import cases
 import decay_tables
 import reference
 import retold
+import samples_cases
+from faults import applied
 from histories import KINDS_AND_CLIMATES, PLAIN, damaged, only, random_record, replaced
 from reference import FRESH, Ledger, Record, decay, deposits, rates, read_record, step, write_record
+from samples_cases import fair_sorting
 
 HERE = os.path.dirname(os.path.abspath(__file__))
 ROOM = bytes(48)
@@ -228,6 +232,59 @@ def demand_3(rng, kind, climate, part):
         check("figure", abs(answer.figure - retold.exact_figure(record, release)) < answer.bound, True)
 
 
+def packed(*fractions):
+    """The bytes of a sample: the fractions named, and nothing of the other types."""
+    return struct.pack("<8H", *fractions, *[0] * (8 - len(fractions)))
+
+
+def samples_counted():
+    """Every edge of a total, and of how many samples a kind takes."""
+    month = packed(1, 9990, 9) * 3
+    for total, number in [(0, 0), (10**9, 0), (10**9 + 1, 14), (2**32 - 1, 14), (2**32 + 5, 14), (2**64 - 1, 14)]:
+        check(f"total {total}", reference.masses(2, total, month)[0], number)
+    most = {1: 400, 2: 3}
+    for kind, Z, off in product((0, 1, 2, 3, 255), (0, 1, 2, 3, 4, 11, 12, 13, 399, 400, 401, 410), (-1, 0, 1)):
+        length = max(16 * Z + off, 0)
+        taken = off == 0 and kind in most and retold.LEAST_SAMPLES[kind] <= Z <= most[kind]
+        found = reference.masses(kind, 5, (packed(10000) * (Z + 1))[:length])
+        check(f"kind {kind} with {length} bytes", found, (0, only(1, 5)) if taken else (15, NOTHING))
+
+
+def samples_added_up():
+    """One sample among others that adds up, or does not, by one or by what wraps at 2^16."""
+    whole = packed(2500, 0, 0, 0, 0, 0, 0, 7500)
+    for sample, number in [
+        (packed(0, 9999), 16),
+        (packed(0, 9999, 1), 0),
+        (packed(0, 9999, 2), 16),
+        (packed(10001), 16),
+        (packed(65535, 10001), 16),
+        (packed(*[9442] * 8), 16),
+        (packed(*[65535] * 8), 16),
+    ]:
+        for place in range(3):
+            data = whole * place + sample + whole * (2 - place)
+            check(f"sample {sample.hex()} at {place}", reference.masses(2, 1, data)[0], number)
+    check("one over and one under", reference.masses(2, 1, packed(9999) + whole + packed(10001)), (16, NOTHING))
+
+
+def samples_at_fault(rng):
+    """Each fault alone, and which of two is named."""
+    for kind, faults in product((1, 2), [(fault,) for fault in samples_cases.FAULTS] + samples_cases.PAIRS):
+        sorting = applied(fair_sorting(rng, kind), faults)
+        check(f"masses of {sorting}", reference.masses(*sorting), (faults[0].number, NOTHING))
+
+
+def sampled(sorting):
+    """Accepted masses come from equations (5) to (8), each less than 1 kg from its share, and add up to the total."""
+    refusal, masses = reference.masses(*sorting)
+    shares = retold.mean_shares(sorting.total, list(struct.iter_unpack("<8H", sorting.data)))
+    check("masses", (refusal, masses), (0, retold.whole_masses(shares)))
+    check("sum of masses", sum(masses), sorting.total)
+    for mass, share in zip(masses, shares, strict=True):
+        check(f"{mass} for {share}", share - 1 < mass < share + 1, True)
+
+
 def cases_page():
     """The examples of docs/CASES.md: a case as hex, where 00*136 is a byte repeated, and its line below."""
     with open(os.path.join(HERE, "..", "docs", "CASES.md"), encoding="utf-8") as page:
@@ -246,12 +303,17 @@ def main():
     run_only()
     listing_sample()
     door()
+    samples_counted()
+    samples_added_up()
     tables()
     unlikely()
     rng = random.Random(1)
     for kind, climate in KINDS_AND_CLIMATES:
         for part in (Fraction(0), Fraction(rng.randint(1, 98), 99), 1 - Fraction(1, 10**9), 1 - Fraction(1, 10**40)):
             demand_3(rng, kind, climate, part)
+    samples_at_fault(rng)
+    for kind, Z in [(2, 3)] * 300 + [(1, rng.randint(12, 40)) for _ in range(50)] + [(1, 400)] * 3:
+        sampled(fair_sorting(rng, kind, Z))
     cases_page()
     print("ok")
 
