@@ -31,6 +31,7 @@ STOPS = {
     "kind": FIRST + case("x", b"") + FIRST,
     "long": FIRST + b"l" + little([(cases.LONGEST + 1, 4)]),
     "short": FIRST + case("d", b"\1\1") + FIRST,
+    "samples": FIRST + case("m", bytes(8)) + FIRST,
     "payload": FIRST + FIRST[:-1],
 }
 

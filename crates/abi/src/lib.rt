@@ -106,7 +106,8 @@ pub extern "C" fn landfill_masses(kind: u8, total: u64, samples: &[u8], masses: 
     ensures { λ _. ⌜ now (masses .exit) ≡ sortedOf kind total (now (samples .entry)) .masses ⌝ }
 {
     let sorted = samples::masses(kind, total, samples);
-    *masses = sorted.masses;
+    let parts = sorted.masses;
+    *masses = parts;
     sorted.refusal
 }
 

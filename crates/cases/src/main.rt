@@ -41,6 +41,7 @@ fn judged(letter: u8, length: usize) -> u8
         b'l' => within(0, length, LONGEST),
         b'c' => within(9, length, 9),
         b'p' => within(16, length, 16),
+        b'm' => within(9, length, LONGEST),
         _ => UNKNOWN_KIND,
     }
 }
@@ -54,6 +55,7 @@ fn put_line(letter: u8, payload: &[u8]) {
         b'l' => ledger_cases::listing(payload),
         b'c' => door_cases::cell(payload),
         b'p' => door_cases::point(payload),
+        b'm' => samples_cases::masses(payload),
         _ => (),
     }
 }
