@@ -3,7 +3,7 @@ use mathlib.Core.Path.{_≡_, refl, ap, _∙_}
 use mathlib.Core.Bool.{Bool, true, false, _&&_, _||_, and-false}
 use mathlib.Core.List.{List, [], _∷_}
 use mathlib.Core.Logic.{_⊎_, inl, inr, ⊎-elim}
-use Prim.Native.Nat.{ℕ, zero, suc, _+_, _*_, _≤_, _<_}
+use Prim.Native.Nat.{ℕ, zero, suc, _+_, _-_, _*_, _≤_, _<_}
 use native.Mathlib.Nat.{add-zero, add-suc, suc-add, zero-add, eq-or-lt-of-le, le-of-suc-le-suc}
 use native.Mathlib.Numerals.{add-one}
 use native.Mathlib.Omega.{arith}
@@ -40,6 +40,15 @@ pub sum-part : (f : ℕ → ℕ) (j k : ℕ) → j ≤ k → sumOf f j ≤ sumOf
 sum-part f j zero h = let e : j ≡ 0 = omega arith in rw e (omega arith)
 sum-part f j (suc k) h =
     ⊎-elim (λ e. rw e (omega arith)) (λ lt. omega (arith, sum-part f j k (le-of-suc-le-suc lt))) (eq-or-lt-of-le h)
+
+-- A sum of sums, and a sum of steps from each number to the next.
+pub sum-plus : (f g : ℕ → ℕ) (k : ℕ) → sumOf (λ t. f t + g t) k ≡ sumOf f k + sumOf g k
+sum-plus f g zero = refl
+sum-plus f g (suc k) = omega (arith, sum-plus f g k)
+
+pub sum-steps : (f : ℕ → ℕ) (k : ℕ) → ((t : ℕ) → f t ≤ f (t + 1)) → f 0 + sumOf (λ t. f (t + 1) - f t) k ≡ f k
+sum-steps f zero h = omega arith
+sum-steps f (suc k) h = let next = ap f (add-one k) in omega (arith, sum-steps f k h, h k, next)
 
 -- f s, f (s + 1), .., k of them
 abbrev run : (ℕ → ℕ) → ℕ → ℕ → List ℕ

@@ -1,10 +1,10 @@
 -- Laws of faults: where the refusal is 0, the fault with any number is not there; a fault is named by its number, not by its place.
 use mathlib.Core.Path.{_≡_, refl}
-use mathlib.Core.Bool.{Bool, true, false, cond}
+use mathlib.Core.Bool.{Bool, true, false, cond, _&&_, _||_, and-false}
 use mathlib.Core.List.{List, [], _∷_}
 use Prim.Native.Nat.{ℕ, zero, suc, _≤_}
 use native.Mathlib.Omega.{arith}
-use borrow.Author.Tests.{leb-true}
+use borrow.Author.Tests.{leb-true, eq-eqb}
 use lib.Dec.{eqb, leb}
 use Rattle.numbers.specs.Fault.{Fault, _when_, between, firstOf, ahead}
 use Rattle.numbers.proofs.Eight.{both-true}
@@ -42,6 +42,16 @@ clear k [] n e = refl
 clear k ((zero, bad) ∷ rest) n e = cc
 clear k ((suc number, true) ∷ rest) n e = absurd (omega arith)
 clear k ((suc number, false) ∷ rest) n e = not-there (eqb (suc number) k) (clear k rest n e)
+
+-- Whether a fault with a number is there, at any place; the one that refuses is.
+abbrev pub isThere : ℕ → List Fault → Bool
+isThere k [] = false
+isThere k ((number, bad) ∷ rest) = eqb number k && bad || isThere k rest
+
+pub refused-with : (k : ℕ) (faults : List Fault) → firstOf faults ≡ suc k → isThere (suc k) faults ≡ true
+refused-with k [] e = absurd (omega arith)
+refused-with k ((number, true) ∷ rest) e = simp (eq-eqb number (suc k) e)
+refused-with k ((number, false) ∷ rest) e = rw (and-false (eqb number (suc k))) (refused-with k rest e)
 
 -- Where one is found ahead of a number, it is the first of all; where none is, those from the number on decide.
 module _ (k : ℕ) where

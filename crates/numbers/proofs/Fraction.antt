@@ -5,7 +5,8 @@ use Prim.Native.Nat.{ℕ, zero, suc, _+_, _-_, _*_, _≤_, _<_}
 use native.Mathlib.Nat.{mul-le-mul-left, mul-le-mul-right, le-of-mul-le-mul-right, lt-of-mul-lt-mul-right, mul-lt-mul-of-pos-right, eq-of-mul-eq-mul-right}
 use native.Mathlib.Omega.{arith}
 use lib.Dec.{leb, ltb}
-use Rattle.numbers.specs.Fraction.{Fraction, whole, _⊕_, _⊗_, _≼_, _≺_, _≈_, total}
+use Rattle.numbers.specs.Eight.{sumOf}
+use Rattle.numbers.specs.Fraction.{Fraction, over, whole, _⊕_, _⊗_, _≼_, _≺_, _≈_, total}
 
 -- The orders as tests.
 unfoldable pub atMost? : Fraction → Fraction → Bool
@@ -20,6 +21,9 @@ module _ (a b c : Fraction) where
 
   pub at-most-below : a ≼ b → b ≺ c → a ≺ c
   at-most-below h k = lt-of-mul-lt-mul-right (b .den) (omega (arith, mul-le-mul-right (c .den) h, mul-lt-mul-of-pos-right k (a .pos)))
+
+  pub below-at-most : a ≺ b → b ≼ c → a ≺ c
+  below-at-most h k = lt-of-mul-lt-mul-right (b .den) (omega (arith, mul-lt-mul-of-pos-right h (c .pos), mul-le-mul-right (a .den) k))
 
 -- A sum moves with what is added, and a product with what it is multiplied by.
 module _ (a b : Fraction) where
@@ -55,6 +59,12 @@ module _ (a b c : Fraction) where
 
   pub regroup : a ⊗ (b ⊗ c) ≈ a ⊗ b ⊗ c
   regroup = omega arith
+
+  pub times-same : a ≈ b → a ⊗ c ≈ b ⊗ c
+  times-same h = omega (arith, ap (λ (y : ℕ). y * (c .plus * c .den)) h, ap (λ (y : ℕ). y * (c .minus * c .den)) h)
+
+  pub same-times : a ≈ b → c ⊗ a ≈ c ⊗ b
+  same-times h = omega (arith, times-same h)
 
 -- A r + B s ≤ B r + A s
 crossed : (A B s r : ℕ) → A ≤ B → s ≤ r → A * r + B * s ≤ B * r + A * s
@@ -114,3 +124,12 @@ total-times f c (suc n) =
     same-trans (total (λ k. f k ⊗ c) n ⊕ f n ⊗ c) (total f n ⊗ c ⊕ f n ⊗ c) ((total f n ⊕ f n) ⊗ c)
     (add-same (total (λ k. f k ⊗ c) n) (total f n ⊗ c) (f n ⊗ c) (f n ⊗ c) (total-times f c n) refl)
     (spread (total f n) (f n) c)
+
+-- A sum of fractions over one number is one over it.
+pub total-over : (f : ℕ → ℕ) (q : ℕ) (h : 0 < q) (n : ℕ) → total (λ k. over (f k) q h) n ≈ over (sumOf f n) q h
+unfolding total
+total-over f q h zero = omega arith
+total-over f q h (suc n) =
+    same-trans (total (λ k. over (f k) q h) n ⊕ over (f n) q h) (over (sumOf f n) q h ⊕ over (f n) q h) (over (sumOf f n + f n) q h)
+    (add-same (total (λ k. over (f k) q h) n) (over (sumOf f n) q h) (over (f n) q h) (over (f n) q h) (total-over f q h n) refl)
+    (omega arith)

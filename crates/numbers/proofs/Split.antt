@@ -21,6 +21,13 @@ share-most a b c h = div-le-of-le-mul c (omega (arith, mul-le-mul-left a h))
 pub share-rises : (a b c : ℕ) → 0 < c → a ≤ b → a / c ≤ b / c
 share-rises a b c pos h = le-div-iff-mul-le pos .1 (le-trans (div-mul-le-self a c) h)
 
+-- A part of what is divided, taken by rounding down with it and without it, is less than 1 from exact, both ways.
+pub share-near : (a b c : ℕ) → 0 < c → a ≤ b → (b < (b / c - a / c) * c + a + c) × ((b / c - a / c) * c + a < b + c)
+share-near a b c pos h =
+    let part : a / c + (b / c - a / c) ≡ b / c = omega (arith, share-rises a b c pos h) in
+    let parts : a / c * c + (b / c - a / c) * c ≡ b / c * c = omega (arith, ap (λ (n : ℕ). n * c) part) in
+    (omega (arith, parts, div-add-mod' a c, div-add-mod' b c, mod-lt b pos), omega (arith, parts, div-add-mod' a c, div-add-mod' b c, mod-lt a pos))
+
 -- What multiply-and-divide asks, where b is at most a small c.
 pub share-fits : (a b c : ℕ) → a < 2 ^ 64 → 0 < c → b ≤ c → (c - 1) * c < 2 ^ 64 → (0 < c) × (((c - 1) * b < 2 ^ 64) × (a * b / c < 2 ^ 64))
 share-fits a b c fits pos most small =

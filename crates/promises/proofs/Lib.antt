@@ -9,5 +9,6 @@ pub mod WholeRun
 pub mod OneRun
 pub mod Site
 pub mod Worked
+pub mod Sorting
 pub mod Proved
 pub mod OneAnswer

@@ -13,6 +13,7 @@ pub mod Ledger
 pub mod Image
 pub mod Door
 pub mod Chart
+pub mod Samples
 pub mod Line
 pub mod Lines
 pub mod Calls

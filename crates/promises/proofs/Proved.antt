@@ -33,6 +33,7 @@ use Rattle.promises.proofs.WholeRun.{whole-run}
 use Rattle.promises.proofs.OneRun.{one-run}
 use Rattle.promises.proofs.Site.{kept-site}
 use Rattle.promises.proofs.Worked.{worked}
+use Rattle.promises.proofs.Sorting.{sorted-where, sorted-well, sorted-light}
 
 -- Every rate of a type that decays is in the table, by one test over the types and climates.
 rate? : (t climate : ℕ) → Bool
@@ -124,4 +125,7 @@ promises =
       listing-of-run = λ file room enough. listing-of-run file room (omega arith);
       kept-site = kept-site;
       worked-figures = worked;
+      sorted-where = sorted-where;
+      sorted-well = sorted-well;
+      sorted-light = sorted-light;
     }

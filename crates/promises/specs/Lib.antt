@@ -3,4 +3,5 @@ pub mod Exact
 pub mod WholeRun
 pub mod Site
 pub mod Worked
+pub mod Sorting
 pub mod Promises

@@ -1,4 +1,4 @@
--- Demand 3, sentence by sentence, and the worked figures. proofs/Proved.antt proves `Promises`.
+-- Demand 3, sentence by sentence, the worked figures, and what the requests of document 02 claim. proofs/Proved.antt proves `Promises`.
 -- Place t has type t + 1; T is `broughtAt`, R is `stockAt`, all in milligrams.
 use mathlib.Core.Path.{_≡_}
 use mathlib.Core.Bool.{true, false}
@@ -7,12 +7,12 @@ use mathlib.Core.List.{List, map}
 use Prim.Native.Nat.{ℕ, _+_, _*_, _^_, _≤_, _<_}
 use native.Mathlib.Omega.{arith}
 use lib.ListN.{length, getD}
-use Rattle.numbers.specs.Eight.{allOf}
-use Rattle.numbers.specs.Fraction.{Fraction, over, whole, _⊕_, _≼_, _≺_}
+use Rattle.numbers.specs.Eight.{sumOf, allOf}
+use Rattle.numbers.specs.Fraction.{Fraction, over, whole, _⊕_, _≼_, _≺_, _≈_}
 use Rattle.numbers.specs.Lists.{added, Each}
 use Rattle.decay.specs.Series.{E, StandsFor, exponent}
 use Rattle.waste.specs.Waste.{rateOf}
-use Rattle.record.specs.Fields.{recordBytes, periodOf, kindOf, climateOf, depositOf}
+use Rattle.record.specs.Fields.{recordBytes, periodOf, kindOf, climateOf, massOf, depositOf}
 use Rattle.stock.specs.Stock.{entryAt}
 use Rattle.ledger.specs.Stock.{fresh, broughtAt, stockAt}
 use Rattle.ledger.specs.Take.{totalStock, takeOf, outputFields}
@@ -20,6 +20,7 @@ use Rattle.ledger.specs.History.{Offer, Turn, recordsOf, runOf, outOf, outcomeO
 use Rattle.ledger.specs.declared.book.Ledger.{Ledger}
 use Rattle.ledger.specs.declared.answer.Answer.{Answer}
 use Rattle.ledger.specs.declared.answer.Outcome.{Outcome}
+use Rattle.samples.specs.Samples.{fractionAt, numberOf, sortedOf}
 use Rattle.image.specs.Image.{imageBytes}
 use Rattle.line.specs.Line.{acceptedText}
 use Rattle.lines.specs.Listing.{answerText, runText, listingOf}
@@ -28,6 +29,7 @@ use Rattle.promises.specs.Offering.{Offering, offering, recordsIn}
 use Rattle.promises.specs.Exact.{inert, exactStockAt, exactFigure}
 use Rattle.promises.specs.WholeRun.{runOver, WholeRun}
 use Rattle.promises.specs.Site.{Call, KeptSite}
+use Rattle.promises.specs.Sorting.{meanShare, Sortable}
 use Rattle.promises.specs.Worked.{rows, holds}
 
 -- The carbon that the accepted records are answered to release at place t.
@@ -82,6 +84,17 @@ pub record DemandThree (o : Offering) : Type 0 where
   -- 'The two sums enclose the true exponential': every longer sum is such a fraction too.
   pub sums-chosen : (m : ℕ) → 15 ≤ m → 1 ≤ o .ledger .n → Chosen (o .ledger) (sums (o .ledger) m)
 
+-- What request a of document 02 claims of the masses into which samples part a total W.
+pub record Parted (W : ℕ) (samples masses : List ℕ) : Type 0 where
+  pub some : 0 < numberOf samples
+  -- 'The eight masses add up to the total
+  pub add-up : sumOf (λ t. getD masses t 0) 8 ≡ W
+  -- and each is under 1 kg from its exact mean share',
+  pub under-1-kg : (t : ℕ) → t < 8 → WithinBound (meanShare samples (numberOf samples) some W t) (getD masses t 0) 1
+  -- which is total × (the type's fractions added over all samples) / (10000 × Z).
+  pub share-is : (t : ℕ) → meanShare samples (numberOf samples) some W t
+      ≈ over (W * sumOf (λ n. fractionAt samples n t) (numberOf samples)) (10000 * numberOf samples) (omega arith)
+
 -- What an accepted record's output record and line say first is the record's own.
 pub record SaysOwn (bytes : List ℕ) (a : Answer) : Type 0 where
   pub own-period : outputFields a .period ≡ periodOf bytes
@@ -111,3 +124,10 @@ pub record Promises : Type 0 where
   pub kept-site : (buffer : List ℕ) → length buffer ≡ imageBytes → (calls : List Call) → KeptSite (freshLeft buffer) calls
   -- 'P1 to P10 are one table proved with a single statement from the definitions'
   pub worked-figures : allOf (map holds rows) ≡ true
+  -- Document 02, request a: a total and samples are accepted exactly where the request allows them, and the masses are then as it
+  -- claims.
+  pub sorted-where : (kind W : ℕ) (samples : List ℕ) → (sortedOf kind W samples .refusal ≡ 0) ↔ Sortable kind W samples
+  pub sorted-well : (kind W : ℕ) (samples : List ℕ) → sortedOf kind W samples .refusal ≡ 0 → Parted W samples (sortedOf kind W samples .masses)
+  -- The masses of any call are such that a record that holds them is not refused with 9.
+  pub sorted-light : (kind W : ℕ) (samples : List ℕ) (l : Ledger) (bytes : List ℕ) (room : ℕ)
+      → ((t : ℕ) → t < 8 → massOf bytes t ≡ getD (sortedOf kind W samples .masses) t 0) → takeOf l bytes room .refusal ≡ 9 → ⊥

@@ -1,17 +1,17 @@
 -- The answer by what was tested: each refusal where those ahead of it are not there, and the masses where none is.
-use mathlib.Core.Path.{_≡_, refl, ap}
-use mathlib.Core.Bool.{Bool, true, false, _&&_}
+use mathlib.Core.Path.{_≡_, refl, sym, _∙_}
+use mathlib.Core.Bool.{Bool, true, false, cond, _&&_}
 use mathlib.Core.List.{List, _∷_}
 use mathlib.Core.Logic.{⊎-elim}
-use Prim.Native.Nat.{ℕ, _+_, _-_, _*_, _/_, _%_, _≤_, _<_}
+use Prim.Native.Nat.{ℕ, zero, suc, _+_, _-_, _*_, _/_, _%_, _≤_, _<_}
 use native.Mathlib.Omega.{arith}
-use borrow.Author.Tests.{eqb-true, le-ltb, lt-ltb}
+use borrow.Author.Tests.{eqb-true, ne-eqb, le-ltb, lt-ltb, ltb-false, not-false}
 use lib.Dec.{eqb}
 use lib.ListN.{length, getD}
 use Rattle.numbers.specs.Eight.{eight, everyOf}
-use Rattle.numbers.specs.Fault.{between}
+use Rattle.numbers.specs.Fault.{between, firstOf}
 use Rattle.numbers.proofs.Eight.{both-true, either-true}
-use Rattle.numbers.proofs.Fault.{between-low, between-high}
+use Rattle.numbers.proofs.Fault.{between-low, between-high, clear}
 use Rattle.waste.specs.Waste.{massLimit}
 use Rattle.samples.specs.Samples.{sampleBytes, wholeSample, rightNumber, addsUp, P, numberOf, massUpTo, massOfType, sampleFaults, sortedInto, unsorted, sortedOf}
 use Rattle.samples.proofs.Laws.{no-type}
@@ -56,3 +56,34 @@ pub parted : (total : ℕ) (samples fractions : List ℕ) → fractions ≡ eigh
     eight (λ t. total * getD fractions t 0 / whole - total * getD (0 ∷ fractions) t 0 / whole) ≡ eight (λ t. massOfType samples total (t + 1))
 unfolding massOfType massUpTo
 parted total samples fractions e = rw (e, no-type samples (numberOf samples))
+
+-- What an answer without refusal says.
+module _ (kind total : ℕ) (samples : List ℕ) where
+  pub refusal-is : sortedOf kind total samples .refusal ≡ firstOf (sampleFaults samples kind total)
+  unfolding sortedOf
+  refusal-is = either (firstOf (sampleFaults samples kind total))
+    where
+      either : (refusal : ℕ) → cond (eqb refusal 0) (sortedInto (eight (λ t. massOfType samples total (t + 1)))) (unsorted refusal) .refusal ≡ refusal
+      either zero = refl
+      either (suc refusal) = rw (ne-eqb (suc refusal) 0 (λ e. omega arith))
+
+  pub record Taken : Type 0 where
+    pub light : total ≤ massLimit
+    pub right : Right kind samples true
+    pub up : everyOf (addsUp samples) (numberOf samples) ≡ true
+
+  pub when-taken : sortedOf kind total samples .refusal ≡ 0 → Taken
+  unfolding sampleFaults
+  when-taken e =
+      let none = sym refusal-is ∙ e in
+      record {
+        light = ltb-false massLimit total (clear 14 (sampleFaults samples kind total) refl none);
+        right = not-false _ (clear 15 (sampleFaults samples kind total) refl none);
+        up = not-false _ (clear 16 (sampleFaults samples kind total) refl none);
+      }
+
+  pub not-taken : (sortedOf kind total samples .refusal ≡ 0 → ⊥) → sortedOf kind total samples .masses ≡ eight (λ t. 0)
+  unfolding sortedOf
+  not-taken bad =
+      let there : firstOf (sampleFaults samples kind total) ≡ 0 → ⊥ = λ e. bad (refusal-is ∙ e) in
+      rw (ne-eqb (firstOf (sampleFaults samples kind total)) 0 there)

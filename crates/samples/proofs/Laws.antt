@@ -1,15 +1,17 @@
 -- What holds of fractions added over samples: one sample more, one type more, and all where each sample adds up.
-use mathlib.Core.Path.{_≡_, refl}
+use mathlib.Core.Path.{_≡_, refl, ap}
 use mathlib.Core.Bool.{true}
 use mathlib.Core.List.{List, _∷_}
-use Prim.Native.Nat.{ℕ, zero, suc, _+_, _*_, _≤_, _<_, zero-le}
+use Prim.Native.Nat.{ℕ, zero, suc, _+_, _-_, _*_, _/_, _≤_, _<_, zero-le}
+use native.Mathlib.Nat.{mul-zero, zero-div, mul-div-cancel, mul-le-mul-left}
 use native.Mathlib.Numerals.{add-one}
 use native.Mathlib.Omega.{arith}
 use borrow.Author.Tests.{eqb-true}
 use lib.ListN.{getD}
 use Rattle.numbers.specs.Eight.{eight, sumOf, everyOf}
-use Rattle.numbers.proofs.Eight.{sum-each, sum-at-most, sum-part, every-at, eight-at}
-use Rattle.samples.specs.Samples.{wholeSample, fractionAt, addsUp, P}
+use Rattle.numbers.proofs.Eight.{sum-each, sum-at-most, sum-part, sum-plus, sum-steps, every-at, eight-at}
+use Rattle.numbers.proofs.Split.{share-most, share-rises, share-near}
+use Rattle.samples.specs.Samples.{wholeSample, fractionAt, addsUp, P, numberOf, massUpTo, massOfType}
 
 module _ (samples : List ℕ) where
   pub one-more : (n j : ℕ) {before sum : ℕ} → before ≡ P samples n j → sum ≡ sumOf (fractionAt samples n) j → before + sum ≡ P samples (n + 1) j
@@ -20,6 +22,10 @@ module _ (samples : List ℕ) where
   pub more-types : (Z j k : ℕ) → j ≤ k → P samples Z j ≤ P samples Z k
   unfolding P
   more-types Z j k h = sum-at-most _ _ Z (λ n l. sum-part (fractionAt samples n) j k h)
+
+  pub next-type : (Z j : ℕ) → P samples Z (j + 1) ≡ P samples Z j + sumOf (λ n. fractionAt samples n j) Z
+  unfolding P
+  next-type Z j = rw (add-one j) (sum-plus (λ n. sumOf (fractionAt samples n) j) (λ n. fractionAt samples n j) Z)
 
   pub no-type : (Z : ℕ) → P samples Z 0 ≡ 0
   unfolding P
@@ -45,3 +51,39 @@ module _ (samples : List ℕ) where
         from : (u : ℕ) → u < 8 → getD (0 ∷ fractions) u 0 ≤ getD fractions u 0
         from zero l = zero-le
         from (suc u) l = rw (at u (omega arith), at (suc u) l) (more-types Z (u + 1) (suc u + 1) (omega arith))
+
+-- The masses of a total.
+module _ (samples : List ℕ) (total : ℕ) (some : 0 < numberOf samples) where
+  abbrev whole : ℕ
+  whole = wholeSample * numberOf samples
+
+  abbrev massAt : ℕ → ℕ
+  massAt t = massOfType samples total (t + 1)
+
+  rises : (t : ℕ) → massUpTo samples total t ≤ massUpTo samples total (t + 1)
+  unfolding massUpTo
+  rises t = share-rises _ _ whole (omega arith) (mul-le-mul-left total (more-types samples (numberOf samples) t (t + 1) (omega arith)))
+
+  -- A mass is less than 1 kg from its share of the total, both ways.
+  pub mass-near : (t : ℕ) → let share = total * sumOf (λ n. fractionAt samples n t) (numberOf samples) in
+      (share < massAt t * whole + whole) × (massAt t * whole < share + whole)
+  unfolding massOfType massUpTo
+  mass-near t =
+      let P′ = P samples (numberOf samples) in
+      let back : t + 1 - 1 ≡ t = omega arith in
+      let step : total * P′ (t + 1) ≡ total * P′ t + total * sumOf (λ n. fractionAt samples n t) (numberOf samples)
+      = omega (arith, ap (λ (y : ℕ). total * y) (next-type samples (numberOf samples) t)) in
+      let near = share-near (total * P′ t) (total * P′ (t + 1)) whole (omega arith) (omega (arith, step)) in
+      rw back (omega (arith, near .0, step), omega (arith, near .1, step))
+
+  module _ (up : everyOf (addsUp samples) (numberOf samples) ≡ true) where
+    pub masses-add-up : sumOf massAt 8 ≡ total
+    unfolding massOfType massUpTo
+    masses-add-up =
+        let first : total * P samples (numberOf samples) 0 / whole ≡ 0 = rw (no-type samples (numberOf samples), mul-zero, zero-div) in
+        let last : total * P samples (numberOf samples) 8 / whole ≡ total = rw (all-types samples (numberOf samples) up) (mul-div-cancel total (omega arith)) in
+        omega (arith, sum-steps (massUpTo samples total) 8 rises, first, last)
+
+    pub mass-most : (t : ℕ) → t < 8 → massAt t ≤ total
+    unfolding massOfType massUpTo
+    mass-most t h = omega (arith, share-most total _ whole (some-types samples (numberOf samples) up (t + 1) (omega arith)))

@@ -6,6 +6,7 @@ use Rattle.abi.proofs.landfill_take.Reads as take
 use Rattle.abi.proofs.landfill_run.Reads as run
 use Rattle.abi.proofs.landfill_totals.Reads as totals
 use Rattle.abi.proofs.landfill_cell.Reads as cell
+use Rattle.abi.proofs.landfill_masses.Reads as masses
 use Rattle.abi.proofs.landfill_point.Reads as point
 use Rattle.abi.proofs.landfill_listing.Reads as listing
 use Rattle.promises.proofs.OneAnswer.{OneAnswer, Settled, by-equation, _&_, both}
@@ -27,6 +28,9 @@ landfill-totals-one = by-equation (λ κs a r s p. both (p .0) (both (p .1 .0) (
 
 pub landfill-cell-one : Settled cell.Learnt (λ κs r s. r & now (s .1 .1 .0))
 landfill-cell-one = by-equation (λ κs a r s p. both (p .0) (p .1))
+
+pub landfill-masses-one : Settled masses.Learnt (λ κs r s. r & now (s .1 .1 .1 .0))
+landfill-masses-one = by-equation (λ κs a r s p. both (p .0) (p .1))
 
 pub landfill-point-one : Settled point.Learnt (λ κs r s. r & now (s .1 .1 .0) & now (s .1 .1 .1 .0) & now (s .1 .1 .1 .1 .0))
 landfill-point-one = by-equation (λ κs a r s p. both (p .0) (both (p .1 .0) (both (p .1 .1 .0) (p .1 .1 .1))))
