@@ -170,8 +170,8 @@ static void one_sharing(uint64_t kind, size_t length, unsigned damaged)
     both("landfill_masses", masses);
 }
 
-/* Both kinds and some that are none, with samples that all add up and with some that may not. */
-static void sharings_by(size_t first, size_t last)
+/* Every length from first to last, with both kinds and some that are none, and with samples of which some may not add up. */
+static void sharings_of(size_t first, size_t last)
 {
     static const uint8_t KINDS[] = {1, 2, 0, 3, 255};
     for (size_t length = first; length <= last; length++)
@@ -183,16 +183,20 @@ static void sharings_by(size_t first, size_t last)
 
 static void all_sharings(void)
 {
-    sharings_by(0, 5 * 16);
-    sharings_by(11 * 16 - 1, 14 * 16);
-    sharings_by(398 * 16, 402 * 16 + 1);
-    sharings_by(410 * 16, 410 * 16 + 20);
+    sharings_of(0, 5 * 16);
+    sharings_of(11 * 16 - 1, 14 * 16);
+    sharings_of(398 * 16, 402 * 16 + 1);
+    sharings_of(410 * 16, 410 * 16 + 20);
+    for (uint64_t kind = 0; kind <= 255; kind++) {
+        one_sharing(kind, 3 * 16, 0);
+        one_sharing(kind, 12 * 16, 0);
+    }
     for (size_t count = 0; count <= 410; count++)
         for (uint64_t kind = 1; kind <= 2; kind++) one_sharing(kind, 16 * count, 0);
     for (int i = 0; i < 15000; i++) {
         one_sharing(2, 48, i % 2 == 0 ? 0 : 50);
         one_sharing(1, 16 * (12 + (size_t)i / 2 % 4), i % 2 == 0 ? 0 : 50);
-        one_sharing(i % 3 == 0 ? draw() : (uint64_t)i % 3, below(240), 50);
+        one_sharing((uint64_t)i % 6, below(240), 50);
     }
     for (int i = 0; i < 300; i++) one_sharing(1, 16 * edge(390, 401), i % 2 == 0 ? 0 : 50);
 }
