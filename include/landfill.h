@@ -221,7 +221,7 @@ uint8_t landfill_listing(const uint8_t *records, size_t records_len, uint8_t *te
 uint8_t landfill_masses(uint8_t kind, uint64_t total, const uint8_t *samples, size_t samples_len,
                         uint32_t masses[LANDFILL_TYPES]);
 
-/* Helpers, compiled into the caller. They work on bytes alone, so that byte order and alignment do not matter. */
+/* Helpers, compiled into the caller. They take buffers byte by byte, so that byte order and alignment do not matter. */
 
 /* Writes a number into so many bytes, little-endian. A number too large for them becomes the largest that they hold. */
 static inline void landfill_put(uint8_t *bytes, size_t count, uint64_t number)

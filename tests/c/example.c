@@ -1,4 +1,4 @@
-/* A first program with the library: two years of the site that docs/METHOD.md works by hand, and a month of samples.
+/* A first program with the library: two years of the site that docs/METHOD.md works by hand, and a month that was sorted.
  * Build it with: gcc -Iinclude tests/c/example.c target/staticlib/libabi.a */
 #include "landfill.h"
 
