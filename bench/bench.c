@@ -1,10 +1,12 @@
-/* Runs one peer, or another entry of the library, over the first records of a monthly file of 1200, or compares what all peers
- * write and fails where one refuses a record, or library and reference differ.
- * Usage: bench PEER COUNT or bench ENTRY COUNT, with COUNT in four digits; bench compare */
+/* Runs one peer, or another entry of the library, over the first records of a monthly file of 1200, or shares a total by the
+ * first of 400 samples, or compares what all peers write and fails where one refuses a record or a total, where library and
+ * reference differ, or where two share a total unlike.
+ * Usage: bench PEER COUNT, bench ENTRY COUNT or bench SHARER COUNT, with COUNT in four digits; bench compare */
 #include "doubles.h"
 #include "inputs.h"
 #include "landfill.h"
 #include "reference.h"
+#include "sorted.h"
 
 #include <inttypes.h>
 #include <stdio.h>
@@ -12,8 +14,10 @@
 #include <string.h>
 
 enum { RECORDS = 1200, BYTES = 48, PEERS = 5, ENTRIES = 2, EQUATION = 4, MOST_BY_EQUATION = 120 };
+enum { SAMPLES = 400, TOTAL = 987654321, SHARERS = 3 };
 
 static uint8_t file[RECORDS * BYTES], out[PEERS][RECORDS * BYTES], text[90 * (RECORDS + 1)];
+static uint8_t samples[SAMPLES * LANDFILL_SAMPLE_BYTES];
 
 /* Monthly records of eight types in climate 4, every one accepted. */
 static void make_months(void)
@@ -82,6 +86,13 @@ static const named peers[PEERS] = {{"library", by_library},
                   {"exp-once", doubles_exp_once},
                   {"equation", doubles_equation}};
 
+typedef uint8_t sharing(uint8_t kind, uint64_t total, const uint8_t *samples, size_t samples_len, uint32_t *masses);
+
+static const struct {
+    const char *name;
+    sharing *share;
+} sharers[SHARERS] = {{"masses", landfill_masses}, {"sorted", sorted_masses}, {"reference-masses", reference_masses}};
+
 /* Tells whether a peer, or an entry, accepts all of the first records. */
 static int runs(int peer, size_t count)
 {
@@ -94,6 +105,21 @@ static int enters(int entry, size_t count)
 {
     uint64_t accepted;
     return entries[entry].run(file, BYTES * count, out[0], sizeof out[0], &accepted) == 0 && accepted == count;
+}
+
+/* Tells whether the total is shared by a month's 3 samples or a year's; for no samples there is no call. */
+static int shares(int sharer, size_t count, uint32_t *masses)
+{
+    uint8_t kind = count == 3 ? LANDFILL_MONTHLY : LANDFILL_YEARLY;
+    return count == 0 || sharers[sharer].share(kind, TOTAL, samples, LANDFILL_SAMPLE_BYTES * count, masses) == 0;
+}
+
+static int all_share_alike(size_t count)
+{
+    uint32_t masses[SHARERS][LANDFILL_TYPES];
+    for (int sharer = 0; sharer < SHARERS; sharer++)
+        if (!shares(sharer, count, masses[sharer]) || memcmp(masses[0], masses[sharer], sizeof masses[0]) != 0) return 0;
+    return 1;
 }
 
 /* Prints how far a peer's figures are from the library's, at most, the bound of the library's figure there, and how many
@@ -117,7 +143,9 @@ static void compare(int peer, size_t count)
 
 int main(int words, char **word)
 {
+    uint32_t masses[LANDFILL_TYPES];
     make_months();
+    make_samples(samples, SAMPLES);
     if (words == 2 || (words == 3 && strcmp(word[1], "reference") == 0)) reference_start();
     if (words == 2 && strcmp(word[1], "compare") == 0) {
         if (!runs(0, RECORDS)) return 1;
@@ -126,10 +154,12 @@ int main(int words, char **word)
             if (!runs(peer, count)) return 1;
             compare(peer, count);
         }
-        return memcmp(out[0], out[1], sizeof out[0]) == 0 ? 0 : 1;
+        return memcmp(out[0], out[1], sizeof out[0]) == 0 && all_share_alike(3) && all_share_alike(SAMPLES) ? 0 : 1;
     }
     for (int entry = 0; words == 3 && entry < ENTRIES; entry++)
         if (strcmp(word[1], entries[entry].name) == 0) return enters(entry, strtoul(word[2], NULL, 10)) ? 0 : 1;
+    for (int sharer = 0; words == 3 && sharer < SHARERS; sharer++)
+        if (strcmp(word[1], sharers[sharer].name) == 0) return shares(sharer, strtoul(word[2], NULL, 10), masses) ? 0 : 1;
     for (int peer = 0; words == 3 && peer < PEERS; peer++)
         if (strcmp(word[1], peers[peer].name) == 0) return runs(peer, strtoul(word[2], NULL, 10)) ? 0 : 1;
     return 2;

@@ -1,6 +1,7 @@
 #!/usr/bin/env bash
-# Measures landfill_run beside four peers in C and prints the tables of docs/PERFORMANCE.md: instructions for each record,
-# ratios, how far the figures are apart, and the library's size.
+# Measures landfill_run beside four peers in C, and landfill_masses beside one, and prints the tables of docs/PERFORMANCE.md:
+# instructions for each record, ratios, instructions for one call by samples, how far the figures are apart, and the
+# library's size.
 # Usage: bash bench/run.sh [--library FILE | --standin]
 set -eu
 cd "$(dirname "$0")/.."
@@ -30,8 +31,8 @@ elif command -v valgrind >/dev/null; then counter=by_valgrind
 else stop "neither perf nor valgrind counts instructions here"
 fi
 
-build bench -Ibench bench/bench.c bench/doubles.c tests/c/inputs.c tests/c/reference.c tests/c/entries.c "$library"
-run "$target/bench" compare >"$target/compare" || stop "a record is refused, or library and reference differ: see tests/c/run.sh"
+build bench -Ibench bench/bench.c bench/doubles.c bench/sorted.c tests/c/inputs.c tests/c/reference.c tests/c/entries.c "$library"
+run "$target/bench" compare >"$target/compare" || stop "a record or a total is refused, or two answers differ: see tests/c/run.sh"
 
 # Lines of PEER RECORDS INSTRUCTIONS, the program's cost with no records taken off.
 measure() {
@@ -75,10 +76,15 @@ awk -v peers="$peers" '
         table(2, 1)
     }' "$target/counts"
 
-# Another entry of the library, and the listing program, on the same 1200 records.
-each() { echo "$((($($counter "$@" 1200) - $($counter "$@" 0000)) / 1200))"; }
+# The program's instructions for so many records or samples, those for none taken off.
+over_none() { echo "$(($($counter "$target/bench" "$1" "$2") - $($counter "$target/bench" "$1" 0000)))"; }
+
+# Other entries of the library on the same 1200 records.
 printf '\nInstructions for each of 1200 records by other entries:\n\n| Entry | Instructions |\n|---|---|\n'
-for entry in take listing; do echo "| \`landfill_$entry\` | $(each "$target/bench" $entry) |"; done
+for entry in take listing; do echo "| \`landfill_$entry\` | $(($(over_none $entry 1200) / 1200)) |"; done
+
+printf '\nInstructions for one call by samples:\n\n| Samples | library | plain C |\n|---|---|---|\n'
+for count in 0003 0400; do echo "| $((10#$count)) | $(over_none masses $count) | $(over_none sorted $count) |"; done
 
 cat <<'END'
 

@@ -13,7 +13,8 @@
  *
  * What the caller sees to. None of it is tested, and without it nothing is promised:
  * - A buffer is a pointer, then its length in bytes. So many bytes of one object stand there; they may be read, and also
- *   written where the pointer is not to const.
+ *   written where the pointer is not to const. A pointer without a length is to one number, and masses of landfill_masses
+ *   to eight.
  * - No pointer is NULL, not even where the length is 0.
  * - No two buffers of a call overlap, and no number that the call writes lies in a buffer or in another such number.
  * - Buffers need no alignment. Numbers behind pointers are aligned as C aligns them.
@@ -55,10 +56,11 @@ enum {
     LANDFILL_LEDGER_BYTES = 136, /* a ledger image */
     LANDFILL_RECORD_BYTES = 48,  /* a record, and an output record */
     LANDFILL_ANSWER_BYTES = 88,  /* the answer of one step */
+    LANDFILL_SAMPLE_BYTES = 16,  /* a sorted sample */
     LANDFILL_LINE_BYTES = 90,    /* the longest line of the listing, its byte 10 included */
     LANDFILL_RECORDS = 1200,     /* the most records that a ledger takes */
     LANDFILL_LISTING_BYTES = 108090, /* room for the listing of any file: 90 for each of 1201 lines */
-    LANDFILL_MASS_LIMIT = 1000000000 /* the largest mass of one type in one record, in kg */
+    LANDFILL_MASS_LIMIT = 1000000000 /* the largest mass of one type in one record, and the largest total to share, in kg */
 };
 
 /* Kinds. */
@@ -141,22 +143,26 @@ enum {
  *   (DOC in hundredths of a percent: 4300, 4000, 1500, 2400, 2000, 0, 500, 900 for types 1 to 8).
  * Nothing else is tested. An image that was changed within these limits is taken as it stands, so guard the file. */
 
-/* Refusals. A record is tested in the order of 1 to 9, and the first that holds is the answer. */
+/* Refusals. A record is tested in the order of 1 to 9, and a total with its samples in the order of 14 to 16; the first that
+ * holds is the answer. */
 enum {
-    LANDFILL_ACCEPTED = 0,        /* not refused */
-    LANDFILL_NOT_48_BYTES = 1,    /* the record is not 48 bytes */
-    LANDFILL_NO_ROOM = 2,         /* an output is too short */
-    LANDFILL_UNSOUND = 3,         /* the ledger image fails a test of the list above */
-    LANDFILL_FULL = 4,            /* the ledger has 1200 records */
-    LANDFILL_NOT_A_CODE = 5,      /* kind, climate or site class is not a code, or bytes 12-15 are not all zero */
-    LANDFILL_OUT_OF_TURN = 6,     /* the period is not n + 1 */
-    LANDFILL_OTHER_SERIES = 7,    /* kind or climate differs from the ledger's */
-    LANDFILL_OUT_OF_RANGE = 8,    /* correction factor, OX, F, DOCf, GWP or f is outside its range */
-    LANDFILL_MASS_TOO_LARGE = 9,  /* a mass is over 1,000,000,000 kg */
-    LANDFILL_CELL_EMPTY = 10,     /* the cell is empty */
-    LANDFILL_CELL_NOT_WHOLE = 11, /* the cell is not a whole number: a fraction, infinite or not a number */
-    LANDFILL_CELL_OUTSIDE = 12,   /* the cell is below 0 or above 1,000,000,000 */
-    LANDFILL_POINT_TOO_LARGE = 13 /* figure and bound add up to more than 9,007,199,254,740,992 */
+    LANDFILL_ACCEPTED = 0,         /* not refused */
+    LANDFILL_NOT_48_BYTES = 1,     /* the record is not 48 bytes */
+    LANDFILL_NO_ROOM = 2,          /* an output is too short */
+    LANDFILL_UNSOUND = 3,          /* the ledger image fails a test of the list above */
+    LANDFILL_FULL = 4,             /* the ledger has 1200 records */
+    LANDFILL_NOT_A_CODE = 5,       /* kind, climate or site class is not a code, or bytes 12-15 are not all zero */
+    LANDFILL_OUT_OF_TURN = 6,      /* the period is not n + 1 */
+    LANDFILL_OTHER_SERIES = 7,     /* kind or climate differs from the ledger's */
+    LANDFILL_OUT_OF_RANGE = 8,     /* correction factor, OX, F, DOCf, GWP or f is outside its range */
+    LANDFILL_MASS_TOO_LARGE = 9,   /* a mass is over 1,000,000,000 kg */
+    LANDFILL_CELL_EMPTY = 10,      /* the cell is empty */
+    LANDFILL_CELL_NOT_WHOLE = 11,  /* the cell is not a whole number: a fraction, infinite or not a number */
+    LANDFILL_CELL_OUTSIDE = 12,    /* the cell is below 0 or above 1,000,000,000 */
+    LANDFILL_POINT_TOO_LARGE = 13, /* figure and bound add up to more than 9,007,199,254,740,992 */
+    LANDFILL_TOTAL_TOO_LARGE = 14, /* the total is over 1,000,000,000 kg */
+    LANDFILL_NOT_THE_SAMPLES = 15, /* the kind is not 1 or 2, or the samples are not whole, or not as many as it asks */
+    LANDFILL_SAMPLE_NOT_WHOLE = 16 /* the fractions of a sample do not add up to 10000 */
 };
 
 /* Makes the image a fresh ledger, all zero, and answers 0.
@@ -203,7 +209,19 @@ uint8_t landfill_point(uint64_t figure, uint64_t bound, double *at, double *low,
  * With less, answers 2, writes nothing and sets *length to 0. */
 uint8_t landfill_listing(const uint8_t *records, size_t records_len, uint8_t *text, size_t text_len, uint64_t *length);
 
-/* Helpers, compiled into the caller. They work on bytes alone, so that byte order and alignment do not matter. */
+/* Shares the total of a year or a month, in kg, among the waste types as sorted samples have them, and answers 0: equations
+ * (5) to (8) of TOOL04. kind is 1 for a year, with 12 to 400 samples, or 2 for a month, with its three most recent ones.
+ * A sample is 16 bytes: the fractions of types 1 to 8 in hundredths of a percent, 2 bytes each, type 1 in bytes 0-1, type 2
+ * in bytes 2-3, .. type 8 in bytes 14-15. They add up to 10000. One sample follows the other, with no byte between or after.
+ * masses[0] becomes the mass of type 1, .. masses[7] that of type 8, in kg. With Z samples and P(j) the fractions of types 1
+ * to j of all samples added, the mass of type j is total * P(j) / (10000 * Z) rounded down, less the same for j - 1. So the
+ * masses add up to the total, and each is under 1 kg from its exact share, total times the mean of its fractions.
+ * Answers 14 for a total over 1,000,000,000, then 15 for another kind or not the right number of whole samples, then 16 for
+ * a sample that does not add up, with all eight masses 0. */
+uint8_t landfill_masses(uint8_t kind, uint64_t total, const uint8_t *samples, size_t samples_len,
+                        uint32_t masses[LANDFILL_TYPES]);
+
+/* Helpers, compiled into the caller. They take buffers byte by byte, so that byte order and alignment do not matter. */
 
 /* Writes a number into so many bytes, little-endian. A number too large for them becomes the largest that they hold. */
 static inline void landfill_put(uint8_t *bytes, size_t count, uint64_t number)
@@ -250,6 +268,25 @@ static inline void landfill_put_record(uint8_t *record, const struct landfill_re
     landfill_put(record + LANDFILL_RECORD_AT_ZERO, 4, 0);
     for (type = 1; type <= LANDFILL_TYPES; type++)
         landfill_put(record + LANDFILL_RECORD_AT_MASSES + 4 * (type - 1), 4, fields->mass[type]);
+}
+
+/* Writes the 16 bytes of a sample from fractions by type number: fraction[LANDFILL_FOOD]. A fraction that is too large for 2
+ * bytes is written as 65535, and with anything at place 0, which is no type's, all eight are: such a sample is refused with
+ * 16. */
+static inline void landfill_put_sample(uint8_t *sample, const uint32_t fraction[LANDFILL_TYPES + 1])
+{
+    size_t type;
+    for (type = 1; type <= LANDFILL_TYPES; type++)
+        landfill_put(sample + 2 * (type - 1), 2, fraction[0] == 0 ? fraction[type] : 65535);
+}
+
+/* Puts the masses that landfill_masses gave into the fields of a record; mass[0] becomes 0. Look at its answer first: the
+ * masses of a refused total are all 0, and would be taken for a period without waste. */
+static inline void landfill_set_masses(struct landfill_record *fields, const uint32_t masses[LANDFILL_TYPES])
+{
+    size_t type;
+    fields->mass[0] = 0;
+    for (type = 1; type <= LANDFILL_TYPES; type++) fields->mass[type] = masses[type - 1];
 }
 
 /* The fields of an output record. */
@@ -307,7 +344,10 @@ static inline const char *landfill_refusal_text(unsigned refusal)
         "The cell is empty.",
         "The cell is not a whole number of kilograms.",
         "The cell is below 0 or above 1,000,000,000 kg.",
-        "Figure and bound are too large to be drawn exactly."
+        "Figure and bound are too large to be drawn exactly.",
+        "The total is over 1,000,000,000 kg.",
+        "The kind is not a code, or the samples are not 12 to 400 whole ones for a year or 3 for a month.",
+        "The fractions of a sample do not add up to 100 percent."
     };
     return refusal < sizeof texts / sizeof texts[0] ? texts[refusal] : "No refusal has this number.";
 }

@@ -40,7 +40,7 @@ static void entry(const struct entries *it, struct side *s)
 
 static void cell(const struct entries *it, struct side *s)
 {
-    s->answer = it->cell(given.filled, given.kg, &s->numbers.mass[1]);
+    s->answer = it->cell(given.filled, given.kg, s->numbers.masses[1]);
 }
 
 static void point(const struct entries *it, struct side *s)
@@ -52,6 +52,11 @@ static void point(const struct entries *it, struct side *s)
 static void listing(const struct entries *it, struct side *s)
 {
     s->answer = it->listing(at(s, RECORDS), length_of(RECORDS), at(s, TEXT), length_of(TEXT), &s->numbers.whole[1]);
+}
+
+static void masses(const struct entries *it, struct side *s)
+{
+    s->answer = it->masses(given.kind, given.total, at(s, SAMPLES), length_of(SAMPLES), s->numbers.masses[1]);
 }
 
 /* ---- Look-ups, cells and points */
@@ -138,6 +143,62 @@ static void all_points(void)
         one_point(UINT64_MAX - edge(0, MOST), part);
         one_point(size, any_size());
     }
+}
+
+/* ---- Sorted samples */
+
+/* Mostly one that is taken. */
+static uint64_t any_total(void)
+{
+    const uint64_t MOST = 1000000000, CUT = (uint64_t)1 << 32;
+    switch (below(16)) {
+    case 0: return MOST - 2 + below(5);
+    case 1: return CUT + edge(0, MOST);
+    case 2: return any_size();
+    default: return edge(0, MOST);
+    }
+}
+
+static void one_sharing(uint64_t kind, size_t length, unsigned damaged)
+{
+    uint8_t *samples = lend(SAMPLES, length);
+    size_t count = length / 16;
+    given.kind = (uint8_t)kind;
+    given.total = any_total();
+    make_samples(samples, count);
+    if (count > 0 && chance(damaged)) damage_samples(samples, count);
+    both("landfill_masses", masses);
+}
+
+/* Every length from first to last, with both kinds and some that are none, and with samples of which some may not add up. */
+static void sharings_of(size_t first, size_t last)
+{
+    static const uint8_t KINDS[] = {1, 2, 0, 3, 255};
+    for (size_t length = first; length <= last; length++)
+        for (size_t i = 0; i < sizeof KINDS; i++) {
+            one_sharing(KINDS[i], length, 0);
+            one_sharing(KINDS[i], length, 50);
+        }
+}
+
+static void all_sharings(void)
+{
+    sharings_of(0, 5 * 16);
+    sharings_of(11 * 16 - 1, 14 * 16);
+    sharings_of(398 * 16, 402 * 16 + 1);
+    sharings_of(410 * 16, 410 * 16 + 20);
+    for (uint64_t kind = 0; kind <= 255; kind++) {
+        one_sharing(kind, 3 * 16, 0);
+        one_sharing(kind, 12 * 16, 0);
+    }
+    for (size_t count = 0; count <= 410; count++)
+        for (uint64_t kind = 1; kind <= 2; kind++) one_sharing(kind, 16 * count, 0);
+    for (int i = 0; i < 15000; i++) {
+        one_sharing(2, 48, i % 2 == 0 ? 0 : 50);
+        one_sharing(1, 16 * (12 + (size_t)i / 2 % 4), i % 2 == 0 ? 0 : 50);
+        one_sharing((uint64_t)i % 6, below(240), 50);
+    }
+    for (int i = 0; i < 300; i++) one_sharing(1, 16 * edge(390, 401), i % 2 == 0 ? 0 : 50);
 }
 
 /* ---- Ledgers and steps */
@@ -290,6 +351,7 @@ int main(int count, char **words)
     all_look_ups();
     all_cells();
     all_points();
+    all_sharings();
     all_totals();
     all_takes();
     for (uint64_t kind = 1; kind <= 2; kind++)

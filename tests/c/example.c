@@ -1,4 +1,4 @@
-/* A first program with the library: two years of the site that docs/METHOD.md works by hand.
+/* A first program with the library: two years of the site that docs/METHOD.md works by hand, and a month that was sorted.
  * Build it with: gcc -Iinclude tests/c/example.c target/staticlib/libabi.a */
 #include "landfill.h"
 
@@ -11,21 +11,51 @@ static void say(const char *what, uint8_t refusal)
     printf("%s: refused with %u: %s\n", what, refusal, landfill_refusal_text(refusal));
 }
 
+/* Ends the program where something is refused that should not be. */
+static void expect(const char *what, uint8_t refusal)
+{
+    if (refusal == LANDFILL_ACCEPTED) return;
+    say(what, refusal);
+    exit(1);
+}
+
 /* A weight as the operator types it, in tonnes. A refused one ends the program: its mass is not known, and not 0. */
 static uint32_t weighed(double tonnes)
 {
     uint32_t kg;
-    uint8_t refusal = landfill_cell(1, landfill_kg(tonnes), &kg);
-    if (refusal == LANDFILL_ACCEPTED) return kg;
-    say("weight", refusal);
-    exit(1);
+    expect("weight", landfill_cell(1, landfill_kg(tonnes), &kg));
+    return kg;
 }
 
-static void print_year(const uint8_t *out)
+static void print_output(const uint8_t *out)
 {
-    struct landfill_output year = landfill_get_output(out);
-    printf("year %" PRIu32 ": %" PRIu64 " mg of carbon released, which is %" PRIu64 " g CO2e, give or take %" PRIu64 "\n",
-           year.period, year.x0, year.figure, year.bound);
+    struct landfill_output it = landfill_get_output(out);
+    printf("%s %" PRIu32 ": %" PRIu64 " mg of carbon released, which is %" PRIu64 " g CO2e, give or take %" PRIu64 "\n",
+           it.kind == LANDFILL_YEARLY ? "year" : "month", it.period, it.x0, it.figure, it.bound);
+}
+
+/* A month whose loads were weighed, but not by type: three of them were sorted, in hundredths of a percent. */
+static void sorted_month(struct landfill_record month)
+{
+    static const uint32_t sorted[3][LANDFILL_TYPES + 1] = {
+        {[LANDFILL_PAPER] = 1800, [LANDFILL_FOOD] = 6000, [LANDFILL_INERT] = 2200},
+        {[LANDFILL_PAPER] = 2150, [LANDFILL_FOOD] = 5850, [LANDFILL_INERT] = 2000},
+        {[LANDFILL_PAPER] = 1475, [LANDFILL_FOOD] = 6025, [LANDFILL_INERT] = 2500}};
+    uint8_t samples[3 * LANDFILL_SAMPLE_BYTES], ledger[LANDFILL_LEDGER_BYTES], record[LANDFILL_RECORD_BYTES];
+    uint8_t out[LANDFILL_RECORD_BYTES], answer[LANDFILL_ANSWER_BYTES];
+    uint32_t masses[LANDFILL_TYPES];
+    for (size_t n = 0; n < 3; n++) landfill_put_sample(samples + LANDFILL_SAMPLE_BYTES * n, sorted[n]);
+    expect("samples", landfill_masses(LANDFILL_MONTHLY, weighed(52.2), samples, sizeof samples, masses));
+    month.period = 1;
+    month.kind = LANDFILL_MONTHLY;
+    landfill_set_masses(&month, masses);
+    printf("52200 kg by three samples: paper %" PRIu64 ", food %" PRIu64 ", inert %" PRIu64 "\n", month.mass[LANDFILL_PAPER],
+           month.mass[LANDFILL_FOOD], month.mass[LANDFILL_INERT]);
+
+    landfill_put_record(record, &month);
+    landfill_fresh(ledger, sizeof ledger);
+    expect("month 1", landfill_take(ledger, sizeof ledger, record, sizeof record, out, sizeof out, answer, sizeof answer));
+    print_output(out);
 }
 
 int main(void)
@@ -53,12 +83,8 @@ int main(void)
     landfill_put_record(first, &year);
 
     landfill_fresh(ledger, sizeof ledger);
-    refusal = landfill_take(ledger, sizeof ledger, first, sizeof first, out, sizeof out, answer, sizeof answer);
-    if (refusal != LANDFILL_ACCEPTED) {
-        say("year 1", refusal);
-        return 1;
-    }
-    print_year(out);
+    expect("year 1", landfill_take(ledger, sizeof ledger, first, sizeof first, out, sizeof out, answer, sizeof answer));
+    print_output(out);
     printf("  of this, paper released %" PRIu64 " mg\n", landfill_get_release(answer, LANDFILL_PAPER));
 
     /* A file of two records more: the second year, and one that is out of turn. */
@@ -71,7 +97,7 @@ int main(void)
     landfill_put_record(later + LANDFILL_RECORD_BYTES, &year);
 
     refusal = landfill_run(ledger, sizeof ledger, later, sizeof later, out, sizeof out, &accepted);
-    for (uint64_t i = 0; i < accepted; i++) print_year(out + LANDFILL_RECORD_BYTES * i);
+    for (uint64_t i = 0; i < accepted; i++) print_output(out + LANDFILL_RECORD_BYTES * i);
     if (refusal != LANDFILL_ACCEPTED) say("the record after these", refusal);
 
     /* The refused record has left the ledger as it was. */
@@ -82,5 +108,7 @@ int main(void)
     refusal = landfill_cell(1, 2.01 * 1000.0, &kg);
     say("2.01 t as 2.01 * 1000.0", refusal);
     printf("2.01 t by landfill_kg: %" PRIu32 " kg\n", weighed(2.01));
+
+    sorted_month(year);
     return 0;
 }

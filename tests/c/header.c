@@ -40,19 +40,21 @@ static void check_codes(void)
     static const int refusals[] = {LANDFILL_ACCEPTED, LANDFILL_NOT_48_BYTES, LANDFILL_NO_ROOM, LANDFILL_UNSOUND,
                                    LANDFILL_FULL, LANDFILL_NOT_A_CODE, LANDFILL_OUT_OF_TURN, LANDFILL_OTHER_SERIES,
                                    LANDFILL_OUT_OF_RANGE, LANDFILL_MASS_TOO_LARGE, LANDFILL_CELL_EMPTY,
-                                   LANDFILL_CELL_NOT_WHOLE, LANDFILL_CELL_OUTSIDE, LANDFILL_POINT_TOO_LARGE};
+                                   LANDFILL_CELL_NOT_WHOLE, LANDFILL_CELL_OUTSIDE, LANDFILL_POINT_TOO_LARGE,
+                                   LANDFILL_TOTAL_TOO_LARGE, LANDFILL_NOT_THE_SAMPLES, LANDFILL_SAMPLE_NOT_WHOLE};
     check_row("a kind", kinds, 2, 1, 1);
     check_row("a climate", climates, 4, 1, 1);
     check_row("a site class", classes, 4, 1, 1);
     check_row("a waste type", types, 8, 1, 1);
     check("the number of types", LANDFILL_TYPES == 8);
-    check_row("a refusal", refusals, 14, 0, 1);
+    check_row("a refusal", refusals, 17, 0, 1);
 }
 
 static void check_sizes(void)
 {
     check("a size", LANDFILL_LEDGER_BYTES == 136 && LANDFILL_RECORD_BYTES == 48 && LANDFILL_ANSWER_BYTES == 88);
-    check("the size of a line", LANDFILL_LINE_BYTES == 90);
+    check("the size of a line or a listing", LANDFILL_LINE_BYTES == 90 && LANDFILL_LISTING_BYTES == 1201 * 90);
+    check("the size of a sample", LANDFILL_SAMPLE_BYTES == 16);
     check("a limit", LANDFILL_RECORDS == 1200 && LANDFILL_MASS_LIMIT == 1000000000);
 }
 
@@ -132,6 +134,36 @@ static void check_record(void)
     check_bytes("a record with fields too large", room + 1, too_large, sizeof too_large);
 }
 
+static void check_sample(void)
+{
+    static const uint32_t fraction[LANDFILL_TYPES + 1] = {0, 0x0102, 0x0304, 0x0506, 0x0708, 0x090a, 65535, 65536, 0xffffffff};
+    static const uint8_t plain[16] = {2, 1, 4, 3, 6, 5, 8, 7, 10, 9, 255, 255, 255, 255, 255, 255};
+    static const uint32_t of_no_type[LANDFILL_TYPES + 1] = {1, 1250, 1250, 1250, 1250, 1250, 1250, 1250, 1250};
+    uint8_t room[1 + LANDFILL_SAMPLE_BYTES + 1], full[16]; /* the sample starts at an odd place */
+    memset(room, 0xa5, sizeof room);
+    memset(full, 255, sizeof full);
+    landfill_put_sample(room + 1, fraction);
+    check_bytes("landfill_put_sample", room + 1, plain, sizeof plain);
+    landfill_put_sample(room + 1, of_no_type);
+    check_bytes("a sample with a fraction of no type", room + 1, full, sizeof full);
+    check("a byte beside the sample", room[0] == 0xa5 && room[sizeof room - 1] == 0xa5);
+}
+
+static void check_masses(void)
+{
+    static const uint32_t masses[LANDFILL_TYPES] = {11, 22, 33, 44, 55, 66, 77, 0xffffffff};
+    struct landfill_record it = all_fields(), before = it;
+    it.mass[0] = 1;
+    landfill_set_masses(&it, masses);
+    check("the mass of no type", it.mass[0] == 0);
+    check("a mass by its name", it.mass[LANDFILL_WOOD] == 11 && it.mass[LANDFILL_PAPER] == 22 && it.mass[LANDFILL_FOOD] == 33 &&
+                                    it.mass[LANDFILL_TEXTILES] == 44 && it.mass[LANDFILL_GARDEN] == 55 &&
+                                    it.mass[LANDFILL_INERT] == 66 && it.mass[LANDFILL_DOMESTIC_SLUDGE] == 77 &&
+                                    it.mass[LANDFILL_PAPER_SLUDGE] == 0xffffffff);
+    memcpy(it.mass, before.mass, sizeof it.mass);
+    check("a field beside the masses", memcmp(&it, &before, sizeof it) == 0);
+}
+
 static void check_numbers(void)
 {
     static const uint8_t three[4] = {0x03, 0x02, 0x01, 0xa5}, eight[8] = {8, 7, 6, 5, 4, 3, 2, 1};
@@ -189,11 +221,12 @@ static void check_text(unsigned refusal, const char *text)
 static void check_texts(void)
 {
     unsigned refusal;
-    for (refusal = 0; refusal <= 13; refusal++) check("a text", strchr(landfill_refusal_text(refusal), '.') != NULL);
+    for (refusal = 0; refusal <= 16; refusal++) check("a text", strchr(landfill_refusal_text(refusal), '.') != NULL);
     check_text(LANDFILL_ACCEPTED, "Accepted.");
     check_text(LANDFILL_OUT_OF_TURN, "The period is not the next in turn.");
     check_text(LANDFILL_POINT_TOO_LARGE, "Figure and bound are too large to be drawn exactly.");
-    check_text(14, "No refusal has this number.");
+    check_text(LANDFILL_SAMPLE_NOT_WHOLE, "The fractions of a sample do not add up to 100 percent.");
+    check_text(17, "No refusal has this number.");
     check_text((unsigned)-1, "No refusal has this number.");
 }
 
@@ -203,6 +236,8 @@ int main(void)
     check_sizes();
     check_places();
     check_record();
+    check_sample();
+    check_masses();
     check_numbers();
     check_output();
     check_kg();

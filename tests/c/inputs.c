@@ -1,4 +1,4 @@
-/* Random, edged and damaged records and ledgers. */
+/* Random, edged and damaged records, ledgers and samples. */
 #include "inputs.h"
 
 #include "reference.h"
@@ -168,4 +168,72 @@ void damage_ledger(uint8_t *image)
     if (chance(5)) memset(image, 0, 136);
     do break_ledger(image);
     while (chance(30));
+}
+
+static void make_sample(uint8_t *sample)
+{
+    uint64_t left = 10000, first = below(8);
+    for (uint64_t i = 0; i < 8; i++) {
+        uint64_t part = i < 7 ? edge(0, left) : left;
+        reference_write(sample + 2 * ((first + i) % 8), 2, part);
+        left -= part;
+    }
+}
+
+void make_samples(uint8_t *bytes, size_t count)
+{
+    for (size_t n = 0; n < count; n++) make_sample(bytes + 16 * n);
+}
+
+static uint8_t *some_fraction(uint8_t *sample)
+{
+    return sample + 2 * below(8);
+}
+
+/* Adds to a fraction, modulo 2^16. */
+static void add(uint8_t *fraction, uint64_t number)
+{
+    reference_write(fraction, 2, reference_read(fraction, 2) + number);
+}
+
+/* Makes a sample add up, modulo 2^16 only, by one of its fractions. */
+static void add_up(uint8_t *sample)
+{
+    uint64_t sum = 0;
+    for (int t = 0; t < 8; t++) sum += reference_read(sample + 2 * t, 2);
+    add(some_fraction(sample), 10000 - sum);
+}
+
+/* A hundredth of a percent may go from one sample to another. */
+static void break_sample(uint8_t *sample, uint8_t *other)
+{
+    uint8_t *fraction = some_fraction(sample), *byte = sample + below(16);
+    switch (below(9)) {
+    case 0: add(fraction, 1); break;
+    case 1: add(fraction, UINT64_MAX); break;
+    case 2:
+        add(fraction, 1);
+        add(some_fraction(other), UINT64_MAX);
+        break;
+    case 3: reference_write(fraction, 2, edge(10001, 65535)); break;
+    case 4:
+        reference_write(fraction, 2, edge(10001, 65535));
+        add_up(sample);
+        break;
+    case 5: random_bytes(sample, 16); break;
+    case 6:
+        random_bytes(sample, 16);
+        add_up(sample);
+        break;
+    case 7: memset(sample, 0, 16); break;
+    default: *byte ^= (uint8_t)(1u << below(8)); break;
+    }
+}
+
+void damage_samples(uint8_t *bytes, size_t count)
+{
+    do {
+        uint8_t *sample = bytes + 16 * below(count);
+        break_sample(sample, bytes + 16 * below(count));
+    } while (chance(40));
 }

@@ -1,4 +1,4 @@
-/* What the differential test offers: random numbers by a seed, records and ledgers, sound and damaged. */
+/* What the differential test offers: random numbers by a seed, records, ledgers and samples, sound and damaged. */
 #ifndef INPUTS_H
 #define INPUTS_H
 
@@ -35,5 +35,9 @@ void damage_record(uint8_t *bytes);
 /* An image of a sound ledger, and one damaged in one way or more. */
 void make_ledger(uint8_t *image, struct series series);
 void damage_ledger(uint8_t *image);
+
+/* Samples that each add up, and so many of which some do not, or, by luck, all do. */
+void make_samples(uint8_t *bytes, size_t count);
+void damage_samples(uint8_t *bytes, size_t count);
 
 #endif

@@ -1,4 +1,4 @@
-/* Document 01's rules on values, one function for each. Letters are the document's. */
+/* The documents' rules on values, one function for each. Letters are the documents'. */
 #include "reference.h"
 
 #include <stdio.h>
@@ -6,7 +6,7 @@
 
 typedef unsigned __int128 wide;
 
-enum { TYPES = 8, RECORDS = 1200, BYTES = 48 };
+enum { TYPES = 8, RECORDS = 1200, BYTES = 48, SAMPLE_BYTES = 16, WHOLE = 10000 };
 static const uint64_t MASS_LIMIT = 1000000000;
 static const uint64_t BILLION = 1000000000;
 
@@ -233,4 +233,55 @@ void reference_accept(struct reference_ledger *ledger, const uint8_t *record, ui
     answer->figure = figure_of(&it, answer->x0);
     answer->bound = bound_of(&it, ledger);
     put_output(out, ledger, answer);
+}
+
+/* ---- Masses from sorted samples */
+
+/* The fraction of the type at place t in a sample, hundredths of a percent. */
+static uint64_t fraction(const uint8_t *sample, int t)
+{
+    return reference_read(sample + 2 * t, 2);
+}
+
+static bool number_is_wrong(uint8_t kind, size_t samples_len)
+{
+    uint64_t Z = samples_len / SAMPLE_BYTES;
+    if (samples_len % SAMPLE_BYTES != 0) return true;
+    if (kind == 1) return !between(12, Z, 400);
+    if (kind == 2) return Z != 3;
+    return true;
+}
+
+static bool a_sample_is_wrong(const uint8_t *samples, size_t samples_len)
+{
+    for (size_t at = 0; at < samples_len; at += SAMPLE_BYTES) {
+        uint64_t sum = 0;
+        for (int t = 0; t < TYPES; t++) sum += fraction(samples + at, t);
+        if (sum != WHOLE) return true;
+    }
+    return false;
+}
+
+static uint8_t refusal_of_samples(uint8_t kind, uint64_t total, const uint8_t *samples, size_t samples_len)
+{
+    if (total > MASS_LIMIT) return 14;
+    if (number_is_wrong(kind, samples_len)) return 15;
+    if (a_sample_is_wrong(samples, samples_len)) return 16;
+    return 0;
+}
+
+/* Where the types up to j have P of all fractions, they have so much of the total, rounded down; each has what it adds. */
+uint8_t reference_masses(uint8_t kind, uint64_t total, const uint8_t *samples, size_t samples_len, uint32_t masses[8])
+{
+    uint64_t Z = samples_len / SAMPLE_BYTES, P = 0, shared = 0;
+    for (int t = 0; t < TYPES; t++) masses[t] = 0;
+    uint8_t refusal = refusal_of_samples(kind, total, samples, samples_len);
+    if (refusal != 0) return refusal;
+    for (int t = 0; t < TYPES; t++) {
+        for (uint64_t n = 0; n < Z; n++) P += fraction(samples + SAMPLE_BYTES * n, t);
+        uint64_t share = (uint64_t)((wide)total * P / (WHOLE * Z));
+        masses[t] = (uint32_t)(share - shared);
+        shared = share;
+    }
+    return 0;
 }

@@ -12,11 +12,11 @@
 
 enum { PATTERN = 0xA5 };
 
-static const struct entries LIBRARY = {landfill_fresh, landfill_take, landfill_run,   landfill_totals,
-                                       landfill_entry, landfill_cell, landfill_point, landfill_listing};
-static const struct entries REFERENCE = {reference_fresh, reference_take, reference_run,   reference_totals,
-                                         reference_entry, reference_cell, reference_point, reference_listing};
-static const char *const NAMES[PLACES] = {"ledger", "records", "out", "answer", "text"};
+static const struct entries LIBRARY = {landfill_fresh, landfill_take,  landfill_run,     landfill_totals, landfill_entry,
+                                       landfill_cell,  landfill_point, landfill_listing, landfill_masses};
+static const struct entries REFERENCE = {reference_fresh, reference_take,  reference_run,     reference_totals, reference_entry,
+                                         reference_cell,  reference_point, reference_listing, reference_masses};
+static const char *const NAMES[PLACES] = {"ledger", "records", "out", "answer", "text", "samples"};
 
 struct given given;
 static struct side before, library, reference;
@@ -87,7 +87,7 @@ static int numbers_differ(void)
     return library.answer != reference.answer || memcmp(&library.numbers, &reference.numbers, sizeof library.numbers) != 0;
 }
 
-/* In rows of 48, as records stand. */
+/* In rows of 48: a record, or three samples. */
 static void print_bytes(const char *title, const struct side *side, enum place place)
 {
     size_t length = spans[place].length;
@@ -118,7 +118,9 @@ static void print_numbers(const char *title, const struct side *side)
     for (int i = 0; i < 5; i++) printf(" %" PRIx64, it->whole[i]);
     printf("; real");
     for (int i = 0; i < 7; i++) printf(" %" PRIx64, real[i]);
-    printf("; mass %" PRIx32 " %" PRIx32 " %" PRIx32 "\n", it->mass[0], it->mass[1], it->mass[2]);
+    printf("; masses");
+    for (int i = 0; i < 24; i++) printf(" %" PRIx32, it->masses[i / 8][i % 8]);
+    printf("\n");
 }
 
 static void print_difference(const char *name)
@@ -128,7 +130,7 @@ static void print_difference(const char *name)
     printf("difference at call %" PRIu64 ", %s\n", compared, name);
     printf("by value, where the entry takes it: kind %u, rate %u, filled %u, kg %a (bits %" PRIx64 ")", given.kind, given.rate,
            given.filled, given.kg, kg);
-    printf(", figure %" PRIu64 ", bound %" PRIu64 "\n", given.figure, given.bound);
+    printf(", figure %" PRIu64 ", bound %" PRIu64 ", total %" PRIu64 "\n", given.figure, given.bound, given.total);
     print_numbers("library  ", &library);
     print_numbers("reference", &reference);
     for (enum place place = 0; place < PLACES; place++)

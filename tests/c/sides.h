@@ -6,14 +6,15 @@
 #include <stddef.h>
 #include <stdint.h>
 
-enum place { LEDGER, RECORDS, OUT, ANSWER, TEXT, PLACES };
+enum place { LEDGER, RECORDS, OUT, ANSWER, TEXT, SAMPLES, PLACES };
 enum { ZONE = 64, LONGEST = 131072, ROOM = ZONE + 8 + LONGEST + ZONE };
 
-/* The numbers that an entry writes behind pointers stand at the odd places; the even ones are red zones. */
+/* The numbers that an entry writes behind pointers stand at the odd places; the even ones are red zones. A place of masses
+ * is a row of eight, and where an entry writes one mass, it is the first of them. */
 struct numbers {
     uint64_t whole[5];
     double real[7];
-    uint32_t mass[3];
+    uint32_t masses[3][8];
 };
 
 struct side {
@@ -27,7 +28,7 @@ struct given {
     uint8_t kind, filled;
     uint16_t rate;
     double kg;
-    uint64_t figure, bound;
+    uint64_t figure, bound, total;
 };
 
 /* The entries of landfill.h, of either side. */
@@ -40,6 +41,7 @@ struct entries {
     uint8_t (*cell)(uint8_t, double, uint32_t *);
     uint8_t (*point)(uint64_t, uint64_t, double *, double *, double *);
     uint8_t (*listing)(const uint8_t *, size_t, uint8_t *, size_t, uint64_t *);
+    uint8_t (*masses)(uint8_t, uint64_t, const uint8_t *, size_t, uint32_t *);
 };
 
 typedef void call(const struct entries *entries, struct side *side);

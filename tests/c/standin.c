@@ -48,3 +48,9 @@ uint8_t landfill_listing(const uint8_t *records, size_t records_len, uint8_t *te
 {
     return reference_listing(records, records_len, text, text_len, length);
 }
+
+uint8_t landfill_masses(uint8_t kind, uint64_t total, const uint8_t *samples, size_t samples_len,
+                        uint32_t masses[LANDFILL_TYPES])
+{
+    return reference_masses(kind, total, samples, samples_len, masses);
+}
