@@ -1,18 +1,18 @@
 -- What request a claims: its laws over whole numbers (samples), carried to the fractions of equations (5) to (8).
-use mathlib.Core.Path.{_≡_, refl, sym, ap, _∙_, subst}
+use mathlib.Core.Path.{_≡_, refl, sym, ap, _∙_}
 use mathlib.Core.Bool.{true, _&&_, true≢false}
 use mathlib.Core.List.{List}
 use mathlib.Core.Logic.{_↔_, ⊎-elim}
-use Prim.Native.Nat.{ℕ, zero, suc, _+_, _*_, _%_, _≤_, _<_, zero-le}
+use Prim.Native.Nat.{ℕ, _+_, _*_, _%_, _≤_, _<_, zero-le}
 use native.Mathlib.Nat.{le-of-eq, le-trans}
 use native.Mathlib.Decide.{ℕ-discrete}
 use native.Mathlib.Omega.{arith}
-use borrow.Author.Tests.{eqb-true, eq-eqb, le-ltb, le-leb}
-use lib.Dec.{eqb, leb, lit<}
+use borrow.Author.Tests.{eqb-true, eq-eqb, le-leb}
+use lib.Dec.{eqb, lit<}
 use lib.ListN.{length, getD}
-use Rattle.numbers.specs.Eight.{eight, sumOf, everyOf}
-use Rattle.numbers.specs.Fault.{between, firstOf}
-use Rattle.numbers.specs.Fraction.{Fraction, over, whole, _⊕_, _⊗_, _≼_, _≺_, _≈_, total}
+use Rattle.numbers.specs.Eight.{sumOf, everyOf}
+use Rattle.numbers.specs.Fault.{between}
+use Rattle.numbers.specs.Fraction.{Fraction, over, whole, _⊕_, _⊗_, _≈_, total}
 use Rattle.numbers.proofs.Eight.{both-true, either-true, eight-at, every-at, every-each}
 use Rattle.numbers.proofs.Fault.{between-low, between-high, refused-with}
 use Rattle.numbers.proofs.Fraction.{at-most-below, below-at-most, add-right, same-trans, times-same, same-times, total-over}

@@ -1,5 +1,4 @@
 -- Each test says what the law of its answer asks (Answer.antt); where all pass, the fractions rise to the whole (Laws.antt).
-use borrow.Author.Needs.{needs}
 use borrow.Author.Tests.{not-true, not-false}
 use mathlib.Core.Path.{_≡_, sym, ap, _∙_}
 use mathlib.Core.Bool.{true}

@@ -1,5 +1,5 @@
 -- Before place t the loop has what is reached with the types before it, and has filled in their masses.
-use mathlib.Core.Path.{_≡_, refl, sym}
+use mathlib.Core.Path.{_≡_, refl}
 use mathlib.Core.List.{List, _∷_}
 use Prim.Native.Nat.{ℕ, _-_, _*_, _/_, _≤_, zero-le}
 use native.Mathlib.Nat.{mul-le-mul-left, mul-zero, zero-div, le-trans}
