@@ -41,6 +41,9 @@ sum-part f j zero h = let e : j ≡ 0 = omega arith in rw e (omega arith)
 sum-part f j (suc k) h =
     ⊎-elim (λ e. rw e (omega arith)) (λ lt. omega (arith, sum-part f j k (le-of-suc-le-suc lt))) (eq-or-lt-of-le h)
 
+pub sum-term : (f : ℕ → ℕ) (t k : ℕ) → t < k → f t ≤ sumOf f k
+sum-term f t k h = omega (arith, sum-part f (suc t) k h)
+
 -- A sum of sums, and a sum of steps from each number to the next.
 pub sum-plus : (f g : ℕ → ℕ) (k : ℕ) → sumOf (λ t. f t + g t) k ≡ sumOf f k + sumOf g k
 sum-plus f g zero = refl
@@ -62,6 +65,10 @@ run-at f s (suc k) (suc i) h = rw (add-suc s i, ← suc-add s i) (run-at f (suc 
 
 pub eight-at : (f : ℕ → ℕ) (t : ℕ) → t < 8 → getD (eight f) t 0 ≡ f t
 eight-at f t h = rw (zero-add t) at (run-at f 0 8 t h)
+
+pub eight-same : {A : Type 0} (f g : ℕ → A) → ((t : ℕ) → t < 8 → f t ≡ g t) → eight f ≡ eight g
+eight-same f g h =
+    rw (h 0 (omega arith), h 1 (omega arith), h 2 (omega arith), h 3 (omega arith), h 4 (omega arith), h 5 (omega arith), h 6 (omega arith), h 7 (omega arith))
 
 pub both-true : (a b : Bool) → (a && b) ≡ true → (a ≡ true) × (b ≡ true)
 both-true true b e = (refl, e)

@@ -82,7 +82,7 @@ module _ (kind W : ℕ) (samples : List ℕ) where
       let number : eqb (length samples % 16) 0 ≡ true = eq-eqb (length samples % 16) 0 (omega (arith, s .whole-samples)) in
       let right : Right kind samples true = rw (right-when kind (numberOf samples) (s .enough), number) in
       let up = every-each (addsUp samples) (numberOf samples) (λ n l. eq-eqb _ _ (s .each-whole n l)) in
-      sym (ap (λ (r : Sorted). r .refusal) (taken kind W samples (s .not-too-large) right up))
+      sym (ap (λ (r : Sorted). r .refusal) (taken kind W samples (s .not-too-large) right up _ refl))
 
   pub sorted-where : (sortedOf kind W samples .refusal ≡ 0) ↔ Sortable kind W samples
   sorted-where = (λ e. allowed (when-taken kind W samples e), accepted)
@@ -95,10 +95,10 @@ module _ (kind W : ℕ) (samples : List ℕ) where
     some = omega (arith, number-within kind samples (t .right) .0)
 
     masses-are : (u : ℕ) → u < 8 → getD (sortedOf kind W samples .masses) u 0 ≡ massOfType samples W (u + 1)
-    masses-are u h = rw (sym (taken kind W samples (t .light) (t .right) (t .up))) (eight-at (λ v. massOfType samples W (v + 1)) u h)
+    masses-are u h = rw (sym (taken kind W samples (t .light) (t .right) (t .up) _ refl)) (eight-at (λ v. massOfType samples W (v + 1)) u h)
 
     add-up : sumOf (λ u. getD (sortedOf kind W samples .masses) u 0) 8 ≡ W
-    add-up = rw (sym (taken kind W samples (t .light) (t .right) (t .up))) (masses-add-up samples W some (t .up))
+    add-up = rw (sym (taken kind W samples (t .light) (t .right) (t .up) _ refl)) (masses-add-up samples W some (t .up))
 
   -- every mass is within the limit, accepted or not
   mass-light : (u : ℕ) → u < 8 → getD (sortedOf kind W samples .masses) u 0 ≤ massLimit

@@ -1,20 +1,20 @@
 -- The answer by what was tested: each refusal where those ahead of it are not there, and the masses where none is.
 use mathlib.Core.Path.{_≡_, refl, sym, _∙_}
 use mathlib.Core.Bool.{Bool, true, false, cond, _&&_}
-use mathlib.Core.List.{List, _∷_}
+use mathlib.Core.List.{List}
 use mathlib.Core.Logic.{⊎-elim}
 use Prim.Native.Nat.{ℕ, zero, suc, _+_, _-_, _*_, _/_, _%_, _≤_, _<_}
 use native.Mathlib.Omega.{arith}
 use borrow.Author.Tests.{eqb-true, ne-eqb, le-ltb, lt-ltb, ltb-false, not-false}
 use lib.Dec.{eqb}
 use lib.ListN.{length, getD}
-use Rattle.numbers.specs.Eight.{eight, everyOf}
+use Rattle.numbers.specs.Eight.{eight, sumOf, everyOf}
 use Rattle.numbers.specs.Fault.{between, firstOf}
-use Rattle.numbers.proofs.Eight.{both-true, either-true}
+use Rattle.numbers.proofs.Eight.{eight-same, both-true, either-true}
 use Rattle.numbers.proofs.Fault.{between-low, between-high, clear}
 use Rattle.waste.specs.Waste.{massLimit}
-use Rattle.samples.specs.Samples.{sampleBytes, wholeSample, rightNumber, addsUp, P, numberOf, massUpTo, massOfType, sampleFaults, sortedInto, unsorted, sortedOf}
-use Rattle.samples.proofs.Laws.{no-type}
+use Rattle.samples.specs.Samples.{sampleBytes, wholeSample, rightNumber, addsUp, numberOf, massUpTo, massOfType, sampleFaults, sortedInto, unsorted, sortedOf}
+use Rattle.samples.proofs.Laws.{ofPlace, by-type}
 
 -- Whether the bytes are the samples that the kind has to have.
 abbrev pub Right : (kind : ℕ) → List ℕ → Bool → Type 0
@@ -45,17 +45,23 @@ module _ (kind total : ℕ) (samples : List ℕ) where
       unfolding sortedOf sampleFaults
       not-whole e = simp (le-ltb massLimit total h, right, e)
 
-      pub taken : everyOf (addsUp samples) (numberOf samples) ≡ true
-          → sortedInto (eight (λ t. massOfType samples total (t + 1))) ≡ sortedOf kind total samples
+      pub taken : everyOf (addsUp samples) (numberOf samples) ≡ true → (masses : List ℕ) → masses ≡ eight (λ t. massOfType samples total (t + 1))
+          → sortedInto masses ≡ sortedOf kind total samples
       unfolding sortedOf sampleFaults
-      taken e = simp (le-ltb massLimit total h, right, e)
+      taken e masses p = simp (le-ltb massLimit total h, right, e, p)
 
 -- What `part` makes of the fractions is the masses.
-pub parted : (total : ℕ) (samples fractions : List ℕ) → fractions ≡ eight (λ t. P samples (numberOf samples) (t + 1))
-    → let whole = wholeSample * numberOf samples in
-    eight (λ t. total * getD fractions t 0 / whole - total * getD (0 ∷ fractions) t 0 / whole) ≡ eight (λ t. massOfType samples total (t + 1))
-unfolding massOfType massUpTo
-parted total samples fractions e = rw (e, no-type samples (numberOf samples))
+module _ (total : ℕ) (samples fractions : List ℕ) where
+  abbrev reached : ℕ → ℕ
+  reached j = total * sumOf (λ u. getD fractions u 0) j / (wholeSample * numberOf samples)
+
+  pub parted : fractions ≡ eight (ofPlace samples (numberOf samples)) → (masses : List ℕ) → masses ≡ eight (λ t. reached (t + 1) - reached t)
+      → masses ≡ eight (λ t. massOfType samples total (t + 1))
+  unfolding massOfType massUpTo
+  parted e masses p =
+      let at = by-type samples (numberOf samples) fractions e in
+      p ∙ eight-same (λ t. reached (t + 1) - reached t) (λ t. massOfType samples total (t + 1))
+      (λ t h. let back : t + 1 - 1 ≡ t = omega arith in rw (at (t + 1) (omega arith), at t (omega arith), back))
 
 -- What an answer without refusal says.
 module _ (kind total : ℕ) (samples : List ℕ) where

@@ -1,8 +1,8 @@
 -- What holds of fractions added over samples: one sample more, one type more, and all where each sample adds up.
-use mathlib.Core.Path.{_≡_, refl, ap}
+use mathlib.Core.Path.{_≡_, refl, sym, ap}
 use mathlib.Core.Bool.{true}
-use mathlib.Core.List.{List, _∷_}
-use Prim.Native.Nat.{ℕ, zero, suc, _+_, _-_, _*_, _/_, _≤_, _<_, zero-le}
+use mathlib.Core.List.{List}
+use Prim.Native.Nat.{ℕ, zero, suc, _+_, _-_, _*_, _/_, _≤_, _<_}
 use native.Mathlib.Nat.{mul-zero, zero-div, mul-div-cancel, mul-le-mul-left}
 use native.Mathlib.Numerals.{add-one}
 use native.Mathlib.Omega.{arith}
@@ -14,24 +14,32 @@ use Rattle.numbers.proofs.Split.{share-most, share-rises, share-near}
 use Rattle.samples.specs.Samples.{wholeSample, fractionAt, addsUp, P, numberOf, massUpTo, massOfType}
 
 module _ (samples : List ℕ) where
-  pub one-more : (n j : ℕ) {before sum : ℕ} → before ≡ P samples n j → sum ≡ sumOf (fractionAt samples n) j → before + sum ≡ P samples (n + 1) j
-  unfolding P
-  one-more n j p q = rw (p, q, add-one n)
+  -- all fractions at place t, added over Z samples
+  abbrev pub ofPlace : (Z t : ℕ) → ℕ
+  ofPlace Z t = sumOf (λ n. fractionAt samples n t) Z
 
-  -- More types have more, and no type has nothing.
-  pub more-types : (Z j k : ℕ) → j ≤ k → P samples Z j ≤ P samples Z k
-  unfolding P
-  more-types Z j k h = sum-at-most _ _ Z (λ n l. sum-part (fractionAt samples n) j k h)
-
-  pub next-type : (Z j : ℕ) → P samples Z (j + 1) ≡ P samples Z j + sumOf (λ n. fractionAt samples n j) Z
+  -- One type more, or more types, and no type.
+  pub next-type : (Z j : ℕ) → P samples Z (j + 1) ≡ P samples Z j + ofPlace Z j
   unfolding P
   next-type Z j = rw (add-one j) (sum-plus (λ n. sumOf (fractionAt samples n) j) (λ n. fractionAt samples n j) Z)
+
+  more-types : (Z j k : ℕ) → j ≤ k → P samples Z j ≤ P samples Z k
+  unfolding P
+  more-types Z j k h = sum-at-most _ _ Z (λ n l. sum-part (fractionAt samples n) j k h)
 
   pub no-type : (Z : ℕ) → P samples Z 0 ≡ 0
   unfolding P
   no-type Z = omega (arith, sum-each (λ n. 0) 0 Z (λ n l. refl))
 
-  -- Where Z samples add up, all types together have the whole of each sample, and some types no more.
+  -- Added by type, they are the same.
+  pub by-type : (Z : ℕ) (fractions : List ℕ) → fractions ≡ eight (ofPlace Z) → (j : ℕ) → j ≤ 8
+      → sumOf (λ t. getD fractions t 0) j ≡ P samples Z j
+  by-type Z fractions e zero h = sym (no-type Z)
+  by-type Z fractions e (suc j) h =
+      let here : getD fractions j 0 ≡ ofPlace Z j = rw e (eight-at (ofPlace Z) j h) in
+      rw (← add-one j, next-type Z j, by-type Z fractions e j (omega arith), here)
+
+  -- Where Z samples add up, all types together have the whole of each sample, and one type no more.
   module _ (Z : ℕ) (up : everyOf (addsUp samples) Z ≡ true) where
     pub all-types : P samples Z 8 ≡ wholeSample * Z
     unfolding P addsUp
@@ -40,17 +48,8 @@ module _ (samples : List ℕ) where
     pub some-types : (j : ℕ) → j ≤ 8 → P samples Z j ≤ wholeSample * Z
     some-types j h = omega (arith, more-types Z j 8 h, all-types)
 
-    -- P(1) to P(8) rise to that.
-    pub rising : (fractions : List ℕ) → fractions ≡ eight (λ t. P samples Z (t + 1)) → (t : ℕ) → t < 8
-        → (getD (0 ∷ fractions) t 0 ≤ getD fractions t 0) × (getD fractions t 0 ≤ wholeSample * Z)
-    rising fractions e t h = (from t h, rw (at t h) (some-types (t + 1) (omega arith)))
-      where
-        at : (u : ℕ) → u < 8 → getD fractions u 0 ≡ P samples Z (u + 1)
-        at u l = rw e (eight-at (λ v. P samples Z (v + 1)) u l)
-
-        from : (u : ℕ) → u < 8 → getD (0 ∷ fractions) u 0 ≤ getD fractions u 0
-        from zero l = zero-le
-        from (suc u) l = rw (at u (omega arith), at (suc u) l) (more-types Z (u + 1) (suc u + 1) (omega arith))
+    pub one-type : (t : ℕ) → t < 8 → ofPlace Z t ≤ wholeSample * Z
+    one-type t h = omega (arith, next-type Z t, some-types (t + 1) (omega arith))
 
 -- The masses of a total.
 module _ (samples : List ℕ) (total : ℕ) (some : 0 < numberOf samples) where

@@ -1,20 +1,19 @@
 // Masses from sorting samples: a total that was weighed is parted among the eight types by the fractions of some sorted samples.
 // It serves request a of document 02, and is called by the package whose operators weigh whole trucks and sort a few.
 ghost use mathlib.Core.Bool.{true, _&&_};
-ghost use mathlib.Core.List.{_∷_};
 ghost use mathlib.Core.Path.{_≡_};
-ghost use Prim.Native.Nat.{ℕ, _+_, _-_, _*_, _/_, _%_, _≤_, _<_};
+ghost use Prim.Native.Nat.{_+_, _-_, _*_, _/_, _%_, _≤_, _<_};
 ghost use lib.Dec.{eqb};
 ghost use lib.ListN.{length, getD};
-ghost use Rattle.numbers.specs.Eight.{eight, everyOf};
+ghost use Rattle.numbers.specs.Eight.{eight, sumOf, everyOf};
 ghost use Rattle.waste.specs.Waste.{massLimit};
-ghost use Rattle.samples.specs.Samples.{sampleBytes, wholeSample, rightNumber, addsUp, P, unsorted, sortedOf};
+ghost use Rattle.samples.specs.Samples.{sampleBytes, wholeSample, rightNumber, fractionAt, addsUp, unsorted, sortedOf};
 
 // The bytes of a sample.
 const BYTES: usize = 16;
 
 // What the fractions of a sample add up to, in hundredths of a percent.
-const WHOLE: u64 = 10000;
+const WHOLE: u32 = 10000;
 
 // The number of the refusal, 0 if none, and the masses of types 1 to 8 in kilograms, 0 if refused.
 pub struct Sorted {
@@ -22,9 +21,9 @@ pub struct Sorted {
     pub masses: [u32; 8],
 }
 
-// The fractions of types 1 to j added over some samples, for j from 1 to 8, and whether the last of the samples adds up.
+// The fractions of each type added over some samples, and whether the last of these adds up.
 struct Added {
-    fractions: [u64; 8],
+    fractions: [u32; 8],
     whole: bool,
 }
 
@@ -51,14 +50,16 @@ fn is_right_number(kind: u8, bytes: usize) -> bool
 // Adds a sample to those before it, which all add up.
 fn add_sample(before: Added, samples: &[u8], n: usize) -> Added
     requires { ⌜ (n < 400) × (sampleBytes * n + sampleBytes ≤ length (now samples)) ⌝ }
-    requires { ⌜ (before .fractions ≡ eight (λ t. P (now samples) n (t + 1))) × (everyOf (addsUp (now samples)) n ≡ true) ⌝ }
-    ensures { λ r. ⌜ (r .fractions ≡ eight (λ t. P (now (samples .entry)) (n + 1) (t + 1))) × (r .whole ≡ addsUp (now (samples .entry)) n) ⌝ }
+    requires { ⌜ (before .fractions ≡ eight (λ t. sumOf (λ m. fractionAt (now samples) m t) n)) × (everyOf (addsUp (now samples)) n ≡ true) ⌝ }
+    ensures { λ r. ⌜ r .fractions ≡ eight (λ t. sumOf (λ m. fractionAt (now (samples .entry)) m t) (n + 1)) ⌝ }
+    ensures { λ r. ⌜ r .whole ≡ addsUp (now (samples .entry)) n ⌝ }
 {
-    let mut fractions = [0u64; 8];
-    let mut sum = 0u64;
+    let mut fractions = [0u32; 8];
+    let mut sum = 0u32;
     for t in 0..8 {
-        sum += numbers::read_u16(samples, BYTES * n + 2 * t);
-        fractions[t] = before.fractions[t] + sum;
+        let fraction = numbers::read_u16(samples, BYTES * n + 2 * t) as u32;
+        fractions[t] = before.fractions[t] + fraction;
+        sum += fraction;
     }
     Added {
         fractions,
@@ -70,7 +71,7 @@ fn add_sample(before: Added, samples: &[u8], n: usize) -> Added
 fn add_samples(samples: &[u8], count: usize) -> Added
     requires { ⌜ (count ≤ 400) × (sampleBytes * count ≤ length (now samples)) ⌝ }
     ensures { λ r. ⌜ r .whole ≡ everyOf (addsUp (now (samples .entry))) count ⌝ }
-    ensures { λ r. ⌜ (r .whole ≡ true → r .fractions ≡ eight (λ t. P (now (samples .entry)) count (t + 1))) ⌝ }
+    ensures { λ r. ⌜ (r .whole ≡ true → r .fractions ≡ eight (λ t. sumOf (λ n. fractionAt (now (samples .entry)) n t) count)) ⌝ }
 {
     let mut added = Added {
         fractions: [0; 8],
@@ -84,15 +85,18 @@ fn add_samples(samples: &[u8], count: usize) -> Added
     added
 }
 
-// Parts a total: a type's mass is what is reached with it, rounded down, less what was reached without it.
-fn part(total: u64, fractions: [u64; 8], whole: u64) -> [u32; 8]
-    requires { ⌜ (total ≤ massLimit) × (0 < whole) × (whole ≤ wholeSample * 400) × ((t : ℕ) → t < 8 → (getD (0 ∷ fractions) t 0 ≤ getD fractions t 0) × (getD fractions t 0 ≤ whole)) ⌝ }
-    ensures { λ r. ⌜ r ≡ eight (λ t. total * getD fractions t 0 / whole - total * getD (0 ∷ fractions) t 0 / whole) ⌝ }
+// Parts a total by the fractions of each type, which are parts of a whole: a type's mass is what is reached with it, rounded down, less
+// what was reached without it.
+fn part(total: u64, fractions: [u32; 8], whole: u64) -> [u32; 8]
+    requires { ⌜ (total ≤ massLimit) × (0 < whole) × (whole ≤ wholeSample * 400) × (sumOf (λ t. getD fractions t 0) 8 ≤ whole) ⌝ }
+    ensures { λ r. ⌜ r ≡ eight (λ t. total * sumOf (λ u. getD fractions u 0) (t + 1) / whole - total * sumOf (λ u. getD fractions u 0) t / whole) ⌝ }
 {
     let mut masses = [0u32; 8];
+    let mut parts = 0u64;
     let mut before = 0u64;
     for t in 0..8 {
-        let reached = total * fractions[t] / whole;
+        parts += fractions[t] as u64;
+        let reached = total * parts / whole;
         masses[t] = (reached - before) as u32;
         before = reached;
     }
@@ -116,6 +120,6 @@ pub fn masses(kind: u8, total: u64, samples: &[u8]) -> Sorted
         return refuse(16);
     }
     let fractions = added.fractions;
-    let masses = part(total, fractions, WHOLE * count as u64);
+    let masses = part(total, fractions, WHOLE as u64 * count as u64);
     Sorted { refusal: 0, masses }
 }

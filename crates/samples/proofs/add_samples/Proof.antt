@@ -1,26 +1,26 @@
 -- Before sample n the loop has added the n samples before it, of which only the last may not add up; then it ends.
 use mathlib.Core.Path.{_≡_, refl, sym, _∙_}
-use Prim.Native.Nat.{_+_, _-_, _≤_, zero-le}
+use Prim.Native.Nat.{_-_, _≤_, zero-le}
 use native.Mathlib.Numerals.{add-one}
 use native.Mathlib.Omega.{arith}
 use borrow.Author.Needs.{needs}
 use Rattle.numbers.specs.Eight.{eight, everyOf}
 use Rattle.numbers.proofs.Eight.{every-fewer}
-use Rattle.samples.specs.Samples.{addsUp, P}
+use Rattle.samples.specs.Samples.{addsUp}
+use Rattle.samples.proofs.Laws.{ofPlace}
 use Rattle.samples.proofs.add_samples.Statement.{statement}
 use Rattle.samples.proofs.add_samples.Tie as tie
 
 abbrev Inv-loop : tie.InvT-loop
 Inv-loop samples count added₀ n₀ added n =
     (n ≤ count)
-    × (added .fractions ≡ eight (λ t. P samples n (t + 1)))
+    × (added .fractions ≡ eight (ofPlace samples n))
     × (added .whole ≡ everyOf (addsUp samples) n)
 
 abbrev μ-loop : tie.MeasureT-loop
 μ-loop samples count added₀ n₀ added n = count - n
 
 loop-holds : tie.Need-loop-holds Inv-loop μ-loop
-unfolding P
 loop-holds c = (zero-le, refl, refl)
 
 loop-again : tie.Need-loop-again Inv-loop μ-loop
