@@ -7,13 +7,20 @@ ghost use lib.Dec.{eqb};
 ghost use lib.ListN.{length, getD};
 ghost use Rattle.numbers.specs.Eight.{eight, sumOf, everyOf};
 ghost use Rattle.waste.specs.Waste.{massLimit};
-ghost use Rattle.samples.specs.Samples.{sampleBytes, wholeSample, rightNumber, fractionAt, addsUp, unsorted, sortedOf};
+ghost use Rattle.samples.specs.Samples.{sampleBytes, wholeSample, mostSamples, rightNumber, fractionAt, addsUp, unsorted, sortedOf};
 
 // The bytes of a sample.
 const BYTES: usize = 16;
 
 // What the fractions of a sample add up to, in hundredths of a percent.
 const WHOLE: u32 = 10000;
+
+// How many samples a year has to have, from the least to the most, and a month.
+const LEAST_A_YEAR: u64 = 12;
+
+const MOST_A_YEAR: u64 = 400;
+
+const A_MONTH: u64 = 3;
 
 // The number of the refusal, 0 if none, and the masses of types 1 to 8 in kilograms, 0 if refused.
 pub struct Sorted {
@@ -42,14 +49,14 @@ fn is_right_number(kind: u8, bytes: usize) -> bool
     ensures { λ r. ⌜ r ≡ (rightNumber kind (bytes / sampleBytes) && eqb (bytes % sampleBytes) 0) ⌝ }
 {
     let count = (bytes / BYTES) as u64;
-    let year = (kind == 1) & numbers::is_between(12, count, 400);
-    let month = (kind == 2) & (count == 3);
+    let year = (kind == 1) & numbers::is_between(LEAST_A_YEAR, count, MOST_A_YEAR);
+    let month = (kind == 2) & (count == A_MONTH);
     (year | month) & (bytes % BYTES == 0)
 }
 
 // Adds a sample to those before it, which all add up.
 fn add_sample(before: Added, samples: &[u8], n: usize) -> Added
-    requires { ⌜ (n < 400) × (sampleBytes * n + sampleBytes ≤ length (now samples)) ⌝ }
+    requires { ⌜ (n < mostSamples) × (sampleBytes * n + sampleBytes ≤ length (now samples)) ⌝ }
     requires { ⌜ (before .fractions ≡ eight (λ t. sumOf (λ m. fractionAt (now samples) m t) n)) × (everyOf (addsUp (now samples)) n ≡ true) ⌝ }
     ensures { λ r. ⌜ r .fractions ≡ eight (λ t. sumOf (λ m. fractionAt (now (samples .entry)) m t) (n + 1)) ⌝ }
     ensures { λ r. ⌜ r .whole ≡ addsUp (now (samples .entry)) n ⌝ }
@@ -69,7 +76,7 @@ fn add_sample(before: Added, samples: &[u8], n: usize) -> Added
 
 // Adds so many samples, up to the first that does not add up.
 fn add_samples(samples: &[u8], count: usize) -> Added
-    requires { ⌜ (count ≤ 400) × (sampleBytes * count ≤ length (now samples)) ⌝ }
+    requires { ⌜ (count ≤ mostSamples) × (sampleBytes * count ≤ length (now samples)) ⌝ }
     ensures { λ r. ⌜ r .whole ≡ everyOf (addsUp (now (samples .entry))) count ⌝ }
     ensures { λ r. ⌜ (r .whole ≡ true → r .fractions ≡ eight (λ t. sumOf (λ n. fractionAt (now (samples .entry)) n t) count)) ⌝ }
 {
@@ -88,7 +95,7 @@ fn add_samples(samples: &[u8], count: usize) -> Added
 // Parts a total by the fractions of each type, which are parts of a whole: a type's mass is what is reached with it, rounded down, less
 // what was reached without it.
 fn part(total: u64, fractions: [u32; 8], whole: u64) -> [u32; 8]
-    requires { ⌜ (total ≤ massLimit) × (0 < whole) × (whole ≤ wholeSample * 400) × (sumOf (λ t. getD fractions t 0) 8 ≤ whole) ⌝ }
+    requires { ⌜ (total ≤ massLimit) × (0 < whole) × (whole ≤ wholeSample * mostSamples) × (sumOf (λ t. getD fractions t 0) 8 ≤ whole) ⌝ }
     ensures { λ r. ⌜ r ≡ eight (λ t. total * sumOf (λ u. getD fractions u 0) (t + 1) / whole - total * sumOf (λ u. getD fractions u 0) t / whole) ⌝ }
 {
     let mut masses = [0u32; 8];

@@ -11,7 +11,7 @@ use lib.Dec.{lit≤}
 use lib.ListN.{getD}
 use Rattle.numbers.specs.Eight.{eight, sumOf, everyOf}
 use Rattle.waste.specs.Waste.{massLimit}
-use Rattle.samples.specs.Samples.{wholeSample, addsUp, numberOf}
+use Rattle.samples.specs.Samples.{wholeSample, mostSamples, addsUp, numberOf}
 use Rattle.samples.proofs.Answer.{Right, number-within, too-large, wrong-number, not-whole, taken, parted}
 use Rattle.samples.proofs.Laws.{ofPlace, by-type, all-types}
 use Rattle.samples.proofs.masses.Statement.{statement}
@@ -23,7 +23,7 @@ asked c = c .before .before .before .before
 right : (c : tie.Else2) → Right (asked c .args .kind) (asked c .args .samples .now) true
 right c = sym (c .before .is-right-number .ensures) ∙ not-false _ (c .if2 .left)
 
-within : (c : tie.Else2) → let Z = numberOf (asked c .args .samples .now) in (3 ≤ Z) × (Z ≤ 400)
+within : (c : tie.Else2) → let Z = numberOf (asked c .args .samples .now) in (3 ≤ Z) × (Z ≤ mostSamples)
 within c = number-within (asked c .args .kind) (asked c .args .samples .now) (right c)
 
 light : (c : tie.Else2) → asked c .args .total ≤ massLimit
