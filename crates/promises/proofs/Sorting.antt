@@ -24,7 +24,7 @@ use Rattle.ledger.specs.Refusal.{refusalOf, sound}
 use Rattle.ledger.specs.Take.{takeOf}
 use Rattle.ledger.specs.declared.book.Ledger.{Ledger}
 use Rattle.ledger.proofs.Take.{take-refusal}
-use Rattle.samples.specs.Samples.{rightNumber, fractionAt, addsUp, numberOf, massOfType, sortedOf}
+use Rattle.samples.specs.Samples.{leastSamples, mostSamples, monthSamples, rightNumber, fractionAt, addsUp, numberOf, massOfType, sortedOf}
 use Rattle.samples.specs.declared.Sorted.{Sorted}
 use Rattle.samples.proofs.Laws.{mass-near, masses-add-up, mass-most}
 use Rattle.samples.proofs.Answer.{Right, number-within, Taken, when-taken, taken, not-taken}
@@ -35,13 +35,13 @@ use Rattle.promises.specs.Promises.{WithinBound, Parted}
 enough-when : (kind Z : ℕ) → rightNumber kind Z ≡ true → Enough kind Z
 enough-when kind Z e =
     ⊎-elim
-    (λ y. let both = both-true (eqb kind 1) (between 12 Z 400) y in
-    year (eqb-true kind 1 (both .0)) (between-low 12 Z 400 (both .1)) (between-high 12 Z 400 (both .1)))
-    (λ m. let both = both-true (eqb kind 2) (eqb Z 3) m in month (eqb-true kind 2 (both .0)) (eqb-true Z 3 (both .1)))
-    (either-true (eqb kind 1 && between 12 Z 400) (eqb kind 2 && eqb Z 3) e)
+    (λ y. let both = both-true (eqb kind 1) (between leastSamples Z mostSamples) y in
+    year (eqb-true kind 1 (both .0)) (between-low leastSamples Z mostSamples (both .1)) (between-high leastSamples Z mostSamples (both .1)))
+    (λ m. let both = both-true (eqb kind 2) (eqb Z monthSamples) m in month (eqb-true kind 2 (both .0)) (eqb-true Z monthSamples (both .1)))
+    (either-true (eqb kind 1 && between leastSamples Z mostSamples) (eqb kind 2 && eqb Z monthSamples) e)
 
 right-when : (kind Z : ℕ) → Enough kind Z → rightNumber kind Z ≡ true
-right-when kind Z (year k low high) = rw k (simp (le-leb 12 Z low, le-leb Z 400 high))
+right-when kind Z (year k low high) = rw k (simp (le-leb leastSamples Z low, le-leb Z mostSamples high))
 right-when kind Z (month k three) = rw (k, three) refl
 
 -- A fraction that is the same is as near.
@@ -92,7 +92,7 @@ module _ (kind W : ℕ) (samples : List ℕ) where
     t = when-taken kind W samples e
 
     some : 0 < numberOf samples
-    some = omega (arith, number-within kind samples (t .right) .0)
+    some = number-within kind samples (t .right) .0
 
     masses-are : (u : ℕ) → u < 8 → getD (sortedOf kind W samples .masses) u 0 ≡ massOfType samples W (u + 1)
     masses-are u h = rw (sym (taken kind W samples (t .light) (t .right) (t .up) _ refl)) (eight-at (λ v. massOfType samples W (v + 1)) u h)

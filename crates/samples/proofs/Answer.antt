@@ -13,22 +13,22 @@ use Rattle.numbers.specs.Fault.{between, firstOf}
 use Rattle.numbers.proofs.Eight.{eight-same, both-true, either-true}
 use Rattle.numbers.proofs.Fault.{between-low, between-high, clear}
 use Rattle.waste.specs.Waste.{massLimit}
-use Rattle.samples.specs.Samples.{sampleBytes, wholeSample, mostSamples, rightNumber, addsUp, numberOf, massUpTo, massOfType, sampleFaults, sortedInto, unsorted, sortedOf}
+use Rattle.samples.specs.Samples.{sampleBytes, wholeSample, leastSamples, mostSamples, monthSamples, rightNumber, addsUp, numberOf, massUpTo, massOfType, sampleFaults, sortedInto, unsorted, sortedOf}
 use Rattle.samples.proofs.Laws.{ofPlace, by-type}
 
 -- Whether the bytes are the samples that the kind has to have.
 abbrev pub Right : (kind : ℕ) → List ℕ → Bool → Type 0
 Right kind samples answer = (rightNumber kind (numberOf samples) && eqb (length samples % sampleBytes) 0) ≡ answer
 
--- Then they are 3 at least and 400 at most.
-pub number-within : (kind : ℕ) (samples : List ℕ) → Right kind samples true → (3 ≤ numberOf samples) × (numberOf samples ≤ mostSamples)
+-- Then there are some, and 400 at most.
+pub number-within : (kind : ℕ) (samples : List ℕ) → Right kind samples true → (0 < numberOf samples) × (numberOf samples ≤ mostSamples)
 number-within kind samples right =
     let Z = numberOf samples in
     ⊎-elim
-    (λ year. let within = both-true (eqb kind 1) (between 12 Z mostSamples) year .1 in
-    (omega (arith, between-low 12 Z mostSamples within), between-high 12 Z mostSamples within))
-    (λ month. let three = eqb-true Z 3 (both-true (eqb kind 2) (eqb Z 3) month .1) in (omega arith, omega arith))
-    (either-true (eqb kind 1 && between 12 Z mostSamples) (eqb kind 2 && eqb Z 3) (both-true (rightNumber kind Z) (eqb (length samples % sampleBytes) 0) right .0))
+    (λ year. let within = both-true (eqb kind 1) (between leastSamples Z mostSamples) year .1 in
+    (omega (arith, between-low leastSamples Z mostSamples within), between-high leastSamples Z mostSamples within))
+    (λ month. let three = eqb-true Z monthSamples (both-true (eqb kind 2) (eqb Z monthSamples) month .1) in (omega arith, omega arith))
+    (either-true (eqb kind 1 && between leastSamples Z mostSamples) (eqb kind 2 && eqb Z monthSamples) (both-true (rightNumber kind Z) (eqb (length samples % sampleBytes) 0) right .0))
 
 module _ (kind total : ℕ) (samples : List ℕ) where
   pub too-large : massLimit < total → unsorted 14 ≡ sortedOf kind total samples

@@ -18,12 +18,19 @@ sampleBytes = 16
 abbrev pub wholeSample : ℕ
 wholeSample = 10000
 
--- 'between 12 and 400 samples for a year, exactly three for a month': kind 1 is a year, kind 2 a month.
+-- 'between 12 and 400 samples for a year, exactly three for a month'
+abbrev pub leastSamples : ℕ
+leastSamples = 12
+
 abbrev pub mostSamples : ℕ
 mostSamples = 400
 
+abbrev pub monthSamples : ℕ
+monthSamples = 3
+
+-- Kind 1 is a year, kind 2 a month.
 abbrev pub rightNumber : (kind Z : ℕ) → Bool
-rightNumber kind Z = eqb kind 1 && between 12 Z mostSamples || eqb kind 2 && eqb Z 3
+rightNumber kind Z = eqb kind 1 && between leastSamples Z mostSamples || eqb kind 2 && eqb Z monthSamples
 
 module _ (samples : List ℕ) where
   -- The fraction at place t, which has type t + 1, of sample n, counted from 0.

@@ -4,7 +4,7 @@ use borrow.Author.Needs.{needs}
 use mathlib.Core.Path.{_≡_, sym, _∙_}
 use mathlib.Core.Bool.{true}
 use mathlib.Core.List.{List}
-use Prim.Native.Nat.{ℕ, _*_, _≤_}
+use Prim.Native.Nat.{ℕ, _*_, _≤_, _<_}
 use native.Mathlib.Nat.{le-of-eq}
 use native.Mathlib.Omega.{arith}
 use lib.Dec.{lit≤}
@@ -23,7 +23,7 @@ asked c = c .before .before .before .before
 right : (c : tie.Else2) → Right (asked c .args .kind) (asked c .args .samples .now) true
 right c = sym (c .before .is-right-number .ensures) ∙ not-false _ (c .if2 .left)
 
-within : (c : tie.Else2) → let Z = numberOf (asked c .args .samples .now) in (3 ≤ Z) × (Z ≤ mostSamples)
+within : (c : tie.Else2) → let Z = numberOf (asked c .args .samples .now) in (0 < Z) × (Z ≤ mostSamples)
 within c = number-within (asked c .args .kind) (asked c .args .samples .now) (right c)
 
 light : (c : tie.Else2) → asked c .args .total ≤ massLimit
