@@ -41,9 +41,6 @@ sum-part f j zero h = let e : j ≡ 0 = omega arith in rw e (omega arith)
 sum-part f j (suc k) h =
     ⊎-elim (λ e. rw e (omega arith)) (λ lt. omega (arith, sum-part f j k (le-of-suc-le-suc lt))) (eq-or-lt-of-le h)
 
-pub sum-term : (f : ℕ → ℕ) (t k : ℕ) → t < k → f t ≤ sumOf f k
-sum-term f t k h = omega (arith, sum-part f (suc t) k h)
-
 -- A sum of sums, and a sum of steps from each number to the next.
 pub sum-plus : (f g : ℕ → ℕ) (k : ℕ) → sumOf (λ t. f t + g t) k ≡ sumOf f k + sumOf g k
 sum-plus f g zero = refl

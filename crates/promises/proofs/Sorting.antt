@@ -1,6 +1,6 @@
 -- What request a claims: its laws over whole numbers (samples), carried to the fractions of equations (5) to (8).
 use mathlib.Core.Path.{_≡_, refl, sym, ap, _∙_}
-use mathlib.Core.Bool.{true, _&&_, true≢false}
+use mathlib.Core.Bool.{true, true≢false}
 use mathlib.Core.List.{List}
 use mathlib.Core.Logic.{_↔_, ⊎-elim}
 use Prim.Native.Nat.{ℕ, _+_, _*_, _%_, _≤_, _<_, zero-le}
@@ -11,10 +11,9 @@ use borrow.Author.Tests.{eqb-true, eq-eqb, le-leb}
 use lib.Dec.{eqb, lit<}
 use lib.ListN.{length, getD}
 use Rattle.numbers.specs.Eight.{sumOf, everyOf}
-use Rattle.numbers.specs.Fault.{between}
 use Rattle.numbers.specs.Fraction.{Fraction, over, whole, _⊕_, _⊗_, _≈_, total}
-use Rattle.numbers.proofs.Eight.{both-true, either-true, eight-at, every-at, every-each}
-use Rattle.numbers.proofs.Fault.{between-low, between-high, refused-with}
+use Rattle.numbers.proofs.Eight.{both-true, eight-at, every-at, every-each}
+use Rattle.numbers.proofs.Fault.{refused-with}
 use Rattle.numbers.proofs.Fraction.{at-most-below, below-at-most, add-right, same-trans, times-same, same-times, total-over}
 use Rattle.waste.specs.Waste.{massLimit}
 use Rattle.record.specs.Fields.{massOf}
@@ -24,21 +23,16 @@ use Rattle.ledger.specs.Refusal.{refusalOf, sound}
 use Rattle.ledger.specs.Take.{takeOf}
 use Rattle.ledger.specs.declared.book.Ledger.{Ledger}
 use Rattle.ledger.proofs.Take.{take-refusal}
-use Rattle.samples.specs.Samples.{leastSamples, mostSamples, monthSamples, rightNumber, fractionAt, addsUp, numberOf, massOfType, sortedOf}
+use Rattle.samples.specs.Samples.{leastSamples, mostSamples, rightNumber, fractionAt, addsUp, numberOf, massOfType, sortedOf}
 use Rattle.samples.specs.declared.Sorted.{Sorted}
 use Rattle.samples.proofs.Laws.{mass-near, masses-add-up, mass-most}
-use Rattle.samples.proofs.Answer.{Right, number-within, Taken, when-taken, taken, not-taken}
+use Rattle.samples.proofs.Answer.{year-or-month, Right, number-within, Taken, when-taken, taken, nothing-sorted}
 use Rattle.promises.specs.Sorting.{fractionIn, meanFraction, meanShare, Enough, year, month, Sortable}
 use Rattle.promises.specs.Promises.{WithinBound, Parted}
 
--- The bytes are the samples that the kind has to have, as the test says it and as the request does.
+-- A right number of samples, as the test says it and as the request does.
 enough-when : (kind Z : ℕ) → rightNumber kind Z ≡ true → Enough kind Z
-enough-when kind Z e =
-    ⊎-elim
-    (λ y. let both = both-true (eqb kind 1) (between leastSamples Z mostSamples) y in
-    year (eqb-true kind 1 (both .0)) (between-low leastSamples Z mostSamples (both .1)) (between-high leastSamples Z mostSamples (both .1)))
-    (λ m. let both = both-true (eqb kind 2) (eqb Z monthSamples) m in month (eqb-true kind 2 (both .0)) (eqb-true Z monthSamples (both .1)))
-    (either-true (eqb kind 1 && between leastSamples Z mostSamples) (eqb kind 2 && eqb Z monthSamples) e)
+enough-when kind Z e = ⊎-elim (λ y. year (y .0) (y .1) (y .2)) (λ m. month (m .0) (m .1)) (year-or-month kind Z e)
 
 right-when : (kind Z : ℕ) → Enough kind Z → rightNumber kind Z ≡ true
 right-when kind Z (year k low high) = rw k (simp (le-leb leastSamples Z low, le-leb Z mostSamples high))
@@ -70,22 +64,22 @@ module _ (kind W : ℕ) (samples : List ℕ) where
   allowed t =
       let both = both-true (rightNumber kind (numberOf samples)) (eqb (length samples % 16) 0) (t .right) in
       record {
-        not-too-large = t .light;
+        not-too-large = t .not-large;
         whole-samples = omega (arith, eqb-true (length samples % 16) 0 (both .1));
         enough = enough-when kind (numberOf samples) (both .0);
-        each-whole = λ n l. eqb-true _ _ (every-at (addsUp samples) (numberOf samples) n l (t .up));
+        each-whole = λ n l. eqb-true _ _ (every-at (addsUp samples) (numberOf samples) n l (t .adds-up));
       }
 
-  accepted : Sortable kind W samples → sortedOf kind W samples .refusal ≡ 0
+  accepts : Sortable kind W samples → sortedOf kind W samples .refusal ≡ 0
   unfolding addsUp
-  accepted s =
+  accepts s =
       let number : eqb (length samples % 16) 0 ≡ true = eq-eqb (length samples % 16) 0 (omega (arith, s .whole-samples)) in
       let right : Right kind samples true = rw (right-when kind (numberOf samples) (s .enough), number) in
       let up = every-each (addsUp samples) (numberOf samples) (λ n l. eq-eqb _ _ (s .each-whole n l)) in
       sym (ap (λ (r : Sorted). r .refusal) (taken kind W samples (s .not-too-large) right up _ refl))
 
   pub sorted-where : (sortedOf kind W samples .refusal ≡ 0) ↔ Sortable kind W samples
-  sorted-where = (λ e. allowed (when-taken kind W samples e), accepted)
+  sorted-where = (λ e. allowed (when-taken kind W samples e), accepts)
 
   module _ (e : sortedOf kind W samples .refusal ≡ 0) where
     t : Taken kind W samples
@@ -95,17 +89,17 @@ module _ (kind W : ℕ) (samples : List ℕ) where
     some = number-within kind samples (t .right) .0
 
     masses-are : (u : ℕ) → u < 8 → getD (sortedOf kind W samples .masses) u 0 ≡ massOfType samples W (u + 1)
-    masses-are u h = rw (sym (taken kind W samples (t .light) (t .right) (t .up) _ refl)) (eight-at (λ v. massOfType samples W (v + 1)) u h)
+    masses-are u h = rw (sym (taken kind W samples (t .not-large) (t .right) (t .adds-up) _ refl)) (eight-at (λ v. massOfType samples W (v + 1)) u h)
 
     add-up : sumOf (λ u. getD (sortedOf kind W samples .masses) u 0) 8 ≡ W
-    add-up = rw (sym (taken kind W samples (t .light) (t .right) (t .up) _ refl)) (masses-add-up samples W some (t .up))
+    add-up = rw (sym (taken kind W samples (t .not-large) (t .right) (t .adds-up) _ refl)) (masses-add-up samples W some (t .adds-up))
 
   -- every mass is within the limit, accepted or not
   mass-light : (u : ℕ) → u < 8 → getD (sortedOf kind W samples .masses) u 0 ≤ massLimit
   mass-light u h =
       elim (ℕ-discrete (sortedOf kind W samples .refusal) 0) [
-        | yes e ↦ rw (masses-are e u h) (le-trans (mass-most samples W (some e) (t e .up) u h) (t e .light))
-        | no e ↦ rw (not-taken kind W samples e) (rw (eight-at (λ v. 0) u h) zero-le)
+        | yes e ↦ rw (masses-are e u h) (le-trans (mass-most samples W (some e) (t e .adds-up) u h) (t e .not-large))
+        | no e ↦ rw (nothing-sorted kind W samples e) (rw (eight-at (λ v. 0) u h) zero-le)
       ]
 
   pub sorted-well : (e : sortedOf kind W samples .refusal ≡ 0) → Parted W samples (sortedOf kind W samples .masses)

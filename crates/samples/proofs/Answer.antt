@@ -2,7 +2,7 @@
 use mathlib.Core.Path.{_≡_, refl, sym, _∙_}
 use mathlib.Core.Bool.{Bool, true, false, cond, _&&_}
 use mathlib.Core.List.{List}
-use mathlib.Core.Logic.{⊎-elim}
+use mathlib.Core.Logic.{_⊎_, inl, inr, ⊎-elim}
 use Prim.Native.Nat.{ℕ, zero, suc, _+_, _-_, _*_, _/_, _%_, _≤_, _<_}
 use native.Mathlib.Omega.{arith}
 use borrow.Author.Tests.{eqb-true, ne-eqb, le-ltb, lt-ltb, ltb-false, not-false}
@@ -16,6 +16,16 @@ use Rattle.waste.specs.Waste.{massLimit}
 use Rattle.samples.specs.Samples.{sampleBytes, wholeSample, leastSamples, mostSamples, monthSamples, rightNumber, addsUp, numberOf, massUpTo, massOfType, sampleFaults, sortedInto, unsorted, sortedOf}
 use Rattle.samples.proofs.Laws.{ofPlace, by-type}
 
+-- A right number of samples is a year's or a month's.
+pub year-or-month : (kind Z : ℕ) → rightNumber kind Z ≡ true
+    → ((kind ≡ 1) × (leastSamples ≤ Z) × (Z ≤ mostSamples)) ⊎ ((kind ≡ 2) × (Z ≡ monthSamples))
+year-or-month kind Z e =
+    ⊎-elim
+    (λ year. let both = both-true (eqb kind 1) (between leastSamples Z mostSamples) year in
+    inl (eqb-true kind 1 (both .0), between-low leastSamples Z mostSamples (both .1), between-high leastSamples Z mostSamples (both .1)))
+    (λ month. let both = both-true (eqb kind 2) (eqb Z monthSamples) month in inr (eqb-true kind 2 (both .0), eqb-true Z monthSamples (both .1)))
+    (either-true (eqb kind 1 && between leastSamples Z mostSamples) (eqb kind 2 && eqb Z monthSamples) e)
+
 -- Whether the bytes are the samples that the kind has to have.
 abbrev pub Right : (kind : ℕ) → List ℕ → Bool → Type 0
 Right kind samples answer = (rightNumber kind (numberOf samples) && eqb (length samples % sampleBytes) 0) ≡ answer
@@ -23,12 +33,8 @@ Right kind samples answer = (rightNumber kind (numberOf samples) && eqb (length 
 -- Then there are some, and 400 at most.
 pub number-within : (kind : ℕ) (samples : List ℕ) → Right kind samples true → (0 < numberOf samples) × (numberOf samples ≤ mostSamples)
 number-within kind samples right =
-    let Z = numberOf samples in
-    ⊎-elim
-    (λ year. let within = both-true (eqb kind 1) (between leastSamples Z mostSamples) year .1 in
-    (omega (arith, between-low leastSamples Z mostSamples within), between-high leastSamples Z mostSamples within))
-    (λ month. let three = eqb-true Z monthSamples (both-true (eqb kind 2) (eqb Z monthSamples) month .1) in (omega arith, omega arith))
-    (either-true (eqb kind 1 && between leastSamples Z mostSamples) (eqb kind 2 && eqb Z monthSamples) (both-true (rightNumber kind Z) (eqb (length samples % sampleBytes) 0) right .0))
+    ⊎-elim (λ year. (omega (arith, year .1), year .2)) (λ month. (omega (arith, month .1), omega (arith, month .1)))
+    (year-or-month kind (numberOf samples) (both-true (rightNumber kind (numberOf samples)) (eqb (length samples % sampleBytes) 0) right .0))
 
 module _ (kind total : ℕ) (samples : List ℕ) where
   pub too-large : massLimit < total → unsorted 14 ≡ sortedOf kind total samples
@@ -74,22 +80,22 @@ module _ (kind total : ℕ) (samples : List ℕ) where
       either (suc refusal) = rw (ne-eqb (suc refusal) 0 (λ e. omega arith))
 
   pub record Taken : Type 0 where
-    pub light : total ≤ massLimit
+    pub not-large : total ≤ massLimit
     pub right : Right kind samples true
-    pub up : everyOf (addsUp samples) (numberOf samples) ≡ true
+    pub adds-up : everyOf (addsUp samples) (numberOf samples) ≡ true
 
   pub when-taken : sortedOf kind total samples .refusal ≡ 0 → Taken
   unfolding sampleFaults
   when-taken e =
       let none = sym refusal-is ∙ e in
       record {
-        light = ltb-false massLimit total (clear 14 (sampleFaults samples kind total) refl none);
+        not-large = ltb-false massLimit total (clear 14 (sampleFaults samples kind total) refl none);
         right = not-false _ (clear 15 (sampleFaults samples kind total) refl none);
-        up = not-false _ (clear 16 (sampleFaults samples kind total) refl none);
+        adds-up = not-false _ (clear 16 (sampleFaults samples kind total) refl none);
       }
 
-  pub not-taken : (sortedOf kind total samples .refusal ≡ 0 → ⊥) → sortedOf kind total samples .masses ≡ eight (λ t. 0)
+  pub nothing-sorted : (sortedOf kind total samples .refusal ≡ 0 → ⊥) → sortedOf kind total samples .masses ≡ eight (λ t. 0)
   unfolding sortedOf
-  not-taken bad =
+  nothing-sorted bad =
       let there : firstOf (sampleFaults samples kind total) ≡ 0 → ⊥ = λ e. bad (refusal-is ∙ e) in
       rw (ne-eqb (firstOf (sampleFaults samples kind total)) 0 there)

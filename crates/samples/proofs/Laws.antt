@@ -1,4 +1,4 @@
--- What holds of fractions added over samples: one sample more, one type more, and all where each sample adds up.
+-- What holds of fractions added over samples, type by type and where each sample adds up, and of the masses that they make.
 use mathlib.Core.Path.{_≡_, refl, sym, ap}
 use mathlib.Core.Bool.{true}
 use mathlib.Core.List.{List}
@@ -40,10 +40,10 @@ module _ (samples : List ℕ) where
       rw (← add-one j, next-type Z j, by-type Z fractions e j (omega arith), here)
 
   -- Where Z samples add up, all types together have the whole of each sample, and one type no more.
-  module _ (Z : ℕ) (up : everyOf (addsUp samples) Z ≡ true) where
+  module _ (Z : ℕ) (adds-up : everyOf (addsUp samples) Z ≡ true) where
     pub all-types : P samples Z 8 ≡ wholeSample * Z
     unfolding P addsUp
-    all-types = omega (arith, sum-each (λ n. sumOf (fractionAt samples n) 8) wholeSample Z (λ n l. eqb-true _ _ (every-at (addsUp samples) Z n l up)))
+    all-types = omega (arith, sum-each (λ n. sumOf (fractionAt samples n) 8) wholeSample Z (λ n l. eqb-true _ _ (every-at (addsUp samples) Z n l adds-up)))
 
     pub some-types : (j : ℕ) → j ≤ 8 → P samples Z j ≤ wholeSample * Z
     some-types j h = omega (arith, more-types Z j 8 h, all-types)
@@ -64,25 +64,25 @@ module _ (samples : List ℕ) (total : ℕ) (some : 0 < numberOf samples) where
   rises t = share-rises _ _ whole (omega arith) (mul-le-mul-left total (more-types samples (numberOf samples) t (t + 1) (omega arith)))
 
   -- A mass is less than 1 kg from its share of the total, both ways.
-  pub mass-near : (t : ℕ) → let share = total * sumOf (λ n. fractionAt samples n t) (numberOf samples) in
+  pub mass-near : (t : ℕ) → let share = total * ofPlace samples (numberOf samples) t in
       (share < massAt t * whole + whole) × (massAt t * whole < share + whole)
   unfolding massOfType massUpTo
   mass-near t =
       let P′ = P samples (numberOf samples) in
       let back : t + 1 - 1 ≡ t = omega arith in
-      let step : total * P′ (t + 1) ≡ total * P′ t + total * sumOf (λ n. fractionAt samples n t) (numberOf samples)
+      let step : total * P′ (t + 1) ≡ total * P′ t + total * ofPlace samples (numberOf samples) t
       = omega (arith, ap (λ (y : ℕ). total * y) (next-type samples (numberOf samples) t)) in
       let near = share-near (total * P′ t) (total * P′ (t + 1)) whole (omega arith) (omega (arith, step)) in
       rw back (omega (arith, near .0, step), omega (arith, near .1, step))
 
-  module _ (up : everyOf (addsUp samples) (numberOf samples) ≡ true) where
+  module _ (adds-up : everyOf (addsUp samples) (numberOf samples) ≡ true) where
     pub masses-add-up : sumOf massAt 8 ≡ total
     unfolding massOfType massUpTo
     masses-add-up =
         let first : total * P samples (numberOf samples) 0 / whole ≡ 0 = rw (no-type samples (numberOf samples), mul-zero, zero-div) in
-        let last : total * P samples (numberOf samples) 8 / whole ≡ total = rw (all-types samples (numberOf samples) up) (mul-div-cancel total (omega arith)) in
+        let last : total * P samples (numberOf samples) 8 / whole ≡ total = rw (all-types samples (numberOf samples) adds-up) (mul-div-cancel total (omega arith)) in
         omega (arith, sum-steps (massUpTo samples total) 8 rises, first, last)
 
     pub mass-most : (t : ℕ) → t < 8 → massAt t ≤ total
     unfolding massOfType massUpTo
-    mass-most t h = omega (arith, share-most total _ whole (some-types samples (numberOf samples) up (t + 1) (omega arith)))
+    mass-most t h = omega (arith, share-most total _ whole (some-types samples (numberOf samples) adds-up (t + 1) (omega arith)))
