@@ -191,8 +191,10 @@ static void all_sharings(void)
         one_sharing(kind, 3 * 16, 0);
         one_sharing(kind, 12 * 16, 0);
     }
-    for (size_t count = 0; count <= 410; count++)
-        for (uint64_t kind = 1; kind <= 2; kind++) one_sharing(kind, 16 * count, 0);
+    for (size_t length = 0; length <= 410 * 16; length++) {
+        one_sharing(1, length, 0);
+        if (length % 16 == 0) one_sharing(2, length, 0);
+    }
     for (int i = 0; i < 15000; i++) {
         one_sharing(2, 48, i % 2 == 0 ? 0 : 50);
         one_sharing(1, 16 * (12 + (size_t)i / 2 % 4), i % 2 == 0 ? 0 : 50);
