@@ -21,7 +21,7 @@ carbonOf waste = numbered carbons waste
 abbrev pub mostCarbon : ℕ
 mostCarbon = 4300
 
--- The most of one type that a record or a cell can bring, in kilograms.
+-- The most of one type that a record or a cell can bring, and the largest total that samples part, in kilograms.
 abbrev pub massLimit : ℕ
 massLimit = 10 ^ 9
 

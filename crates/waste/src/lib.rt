@@ -1,12 +1,12 @@
 // The eight waste types by their fixed numbers, and the site classes: 'Waste types and their constants' of document 01.
-// The ledger looks its constants up here, and the door its limit. A number that names no type, climate or class has 0.
+// The ledger looks its constants up here, the door and the samples their limit. A number that names no type, climate or class has 0.
 ghost use mathlib.Core.List.{_∷_};
 ghost use mathlib.Core.Path.{_≡_};
 ghost use Prim.Native.Nat.{_+_};
 ghost use Rattle.numbers.specs.Eight.{eight};
 ghost use Rattle.waste.specs.Waste.{carbonOf, isClimate, groupOf, rateOf, isClass, correctionOf};
 
-// The most of one type that a record or a cell can bring, in kilograms.
+// The most of one type that a record or a cell can bring, and the largest total that samples part, in kilograms.
 pub const MASS_LIMIT: u64 = 1_000_000_000;
 
 // The climates, and the site classes, by codes from 1 on.
