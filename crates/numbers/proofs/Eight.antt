@@ -22,12 +22,7 @@ module _ (f : ℕ → ℕ) (t : ℕ) where
   pub sum-more : {n x : ℕ} → n ≡ sumOf f t → x ≡ f t → n + x ≡ sumOf f (t + 1)
   sum-more p q = rw (add-one, p, q)
 
--- A sum of small numbers is small.
-pub sum-most : (f : ℕ → ℕ) (b k : ℕ) → ((t : ℕ) → t < k → f t ≤ b) → sumOf f k ≤ k * b
-sum-most f b zero h = omega arith
-sum-most f b (suc k) h = omega (arith, sum-most f b k (λ t l. h t (omega arith)), h k (omega arith))
-
--- A sum of equal numbers, one of smaller numbers, and a part of a sum.
+-- A sum of equal numbers, one of smaller numbers, one of small numbers, and a part of a sum.
 pub sum-each : (f : ℕ → ℕ) (b k : ℕ) → ((t : ℕ) → t < k → f t ≡ b) → sumOf f k ≡ k * b
 sum-each f b zero h = omega arith
 sum-each f b (suc k) h = omega (arith, sum-each f b k (λ t l. h t (omega arith)), h k (omega arith))
@@ -35,6 +30,9 @@ sum-each f b (suc k) h = omega (arith, sum-each f b k (λ t l. h t (omega arith)
 pub sum-at-most : (f g : ℕ → ℕ) (k : ℕ) → ((t : ℕ) → t < k → f t ≤ g t) → sumOf f k ≤ sumOf g k
 sum-at-most f g zero h = omega arith
 sum-at-most f g (suc k) h = omega (arith, sum-at-most f g k (λ t l. h t (omega arith)), h k (omega arith))
+
+pub sum-most : (f : ℕ → ℕ) (b k : ℕ) → ((t : ℕ) → t < k → f t ≤ b) → sumOf f k ≤ k * b
+sum-most f b k h = omega (arith, sum-at-most f (λ t. b) k h, sum-each (λ t. b) b k (λ t l. refl))
 
 pub sum-part : (f : ℕ → ℕ) (j k : ℕ) → j ≤ k → sumOf f j ≤ sumOf f k
 sum-part f j zero h = let e : j ≡ 0 = omega arith in rw e (omega arith)

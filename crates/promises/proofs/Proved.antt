@@ -21,6 +21,7 @@ use Rattle.ledger.specs.declared.book.Ledger.{Ledger}
 use Rattle.ledger.proofs.Accepted as step
 use Rattle.ledger.proofs.Take.{taken, take-refusal}
 use Rattle.ledger.proofs.History.{run-roomy}
+use Rattle.samples.proofs.Answer.{nothing-sorted}
 use Rattle.lines.specs.Listing.{answerText, runText, wholeRun, listingOf}
 use Rattle.promises.specs.Offering.{Offering, offering, recordsIn}
 use Rattle.promises.specs.Exact.{inert, exactStockAt}
@@ -127,5 +128,6 @@ promises =
       worked-figures = worked;
       sorted-where = sorted-where;
       sorted-well = sorted-well;
+      sorted-none = nothing-sorted;
       sorted-light = sorted-light;
     }

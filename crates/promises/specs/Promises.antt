@@ -7,7 +7,7 @@ use mathlib.Core.List.{List, map}
 use Prim.Native.Nat.{ℕ, _+_, _*_, _^_, _≤_, _<_}
 use native.Mathlib.Omega.{arith}
 use lib.ListN.{length, getD}
-use Rattle.numbers.specs.Eight.{sumOf, allOf}
+use Rattle.numbers.specs.Eight.{eight, sumOf, allOf}
 use Rattle.numbers.specs.Fraction.{Fraction, over, whole, _⊕_, _≼_, _≺_, _≈_}
 use Rattle.numbers.specs.Lists.{added, Each}
 use Rattle.decay.specs.Series.{E, StandsFor, exponent}
@@ -128,6 +128,8 @@ pub record Promises : Type 0 where
   -- claims.
   pub sorted-where : (kind W : ℕ) (samples : List ℕ) → (sortedOf kind W samples .refusal ≡ 0) ↔ Sortable kind W samples
   pub sorted-well : (kind W : ℕ) (samples : List ℕ) → sortedOf kind W samples .refusal ≡ 0 → Parted W samples (sortedOf kind W samples .masses)
+  -- A refusal comes 'with all masses 0'.
+  pub sorted-none : (kind W : ℕ) (samples : List ℕ) → (sortedOf kind W samples .refusal ≡ 0 → ⊥) → sortedOf kind W samples .masses ≡ eight (λ t. 0)
   -- The masses of any call are such that a record that holds them is not refused with 9.
   pub sorted-light : (kind W : ℕ) (samples : List ℕ) (l : Ledger) (bytes : List ℕ) (room : ℕ)
       → ((t : ℕ) → t < 8 → massOf bytes t ≡ getD (sortedOf kind W samples .masses) t 0) → takeOf l bytes room .refusal ≡ 9 → ⊥
