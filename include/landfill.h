@@ -53,7 +53,7 @@ extern "C" {
 
 /* Sizes in bytes, and limits. */
 enum {
-    LANDFILL_LEDGER_BYTES = 136, /* a ledger image */
+    LANDFILL_LEDGER_BYTES = 200, /* a ledger image */
     LANDFILL_RECORD_BYTES = 48,  /* a record, and an output record */
     LANDFILL_ANSWER_BYTES = 88,  /* the answer of one step */
     LANDFILL_SAMPLE_BYTES = 16,  /* a sorted sample */
@@ -132,16 +132,31 @@ enum {
     LANDFILL_ANSWER_AT_BOUND = 80    /* 8 bytes: bound, in grams CO2e */
 };
 
-/* A ledger image, 136 bytes, is a site's ledger as it can be kept in a file between calls:
- *    0-1 n, the number of accepted records   2 kind   3 climate   4-7 zero
- *    8-71 T of types 1 to 8 in mg, 8 bytes each   72-135 R of types 1 to 8 in mg, 8 bytes each
- * It is refused with 3 exactly where one of these holds:
- * - it is not 136 bytes, or bytes 4-7 are not all zero;
+/* A ledger image, 200 bytes, is a site's ledger as it can be kept in a file between calls: where each field starts. */
+enum {
+    LANDFILL_LEDGER_AT_N = 0,         /* 2 bytes: n, the number of accepted records */
+    LANDFILL_LEDGER_AT_KIND = 2,      /* 1 byte */
+    LANDFILL_LEDGER_AT_CLIMATE = 3,   /* 1 byte */
+    LANDFILL_LEDGER_AT_ZERO = 4,      /* 4 bytes: zero */
+    LANDFILL_LEDGER_AT_BROUGHT = 8,   /* 64 bytes: T, the carbon that types 1 to 8 brought in, in mg, 8 bytes each */
+    LANDFILL_LEDGER_AT_STOCK = 72,    /* 64 bytes: R, the carbon left of types 1 to 8, in mg, 8 bytes each */
+    LANDFILL_LEDGER_AT_RELEASED = 136 /* 64 bytes: the carbon that types 1 to 8 have released so far, in mg, 8 bytes each */
+};
+
+/* What a type has released so far is the releases of all accepted records added. An image is refused with 3 exactly where
+ * one of these holds:
+ * - it is not 200 bytes, or bytes 4-7 are not all zero;
  * - n is over 1200;
  * - n is 0 and any other byte is not;
- * - n is above 0, and the kind is not 1 or 2, the climate not 1 to 4, some T over n * 10^9 * DOC * 100, or some R over its T
+ * - n is above 0, and the kind is not 1 or 2, the climate not 1 to 4, some T over n * 10^9 * DOC * 100, some R over its T, or
+ *   some released plus R not its T, the true sum being meant, which may be over 64 bits
  *   (DOC in hundredths of a percent: 4300, 4000, 1500, 2400, 2000, 0, 500, 900 for types 1 to 8).
- * Nothing else is tested. An image that was changed within these limits is taken as it stands, so guard the file. */
+ * Nothing else is tested. An image that was changed within these limits is taken as it stands, so guard the file.
+ *
+ * Images of 136 bytes, which were kept before ledgers held what was released, are no images any more: every entry answers 3
+ * to one. Whoever has one runs the site's file of records again, from a fresh ledger: the same records give the same
+ * figures, and the new image. An image of 136 bytes is not to be filled up with zeros; that is refused with 3 as well, as
+ * soon as anything was released. */
 
 /* Refusals. A record is tested in the order of 1 to 9, and a total with its samples in the order of 14 to 16; the first that
  * holds is the answer. */
@@ -166,7 +181,7 @@ enum {
 };
 
 /* Makes the image a fresh ledger, all zero, and answers 0.
- * Answers 3 and writes nothing when ledger_len is not 136. */
+ * Answers 3 and writes nothing when ledger_len is not 200. */
 uint8_t landfill_fresh(uint8_t *ledger, size_t ledger_len);
 
 /* Takes one record into the ledger and answers the refusal, 0 if none.
@@ -183,9 +198,10 @@ uint8_t landfill_take(uint8_t *ledger, size_t ledger_len, const uint8_t *record,
 uint8_t landfill_run(uint8_t *ledger, size_t ledger_len, const uint8_t *records, size_t records_len, uint8_t *out,
                      size_t out_len, uint64_t *accepted);
 
-/* Answers 0, with *stock the carbon left (R) and *brought the carbon brought in (T) over all types, in mg.
- * Answers 3 with both 0 when the ledger is unsound. */
-uint8_t landfill_totals(const uint8_t *ledger, size_t ledger_len, uint64_t *stock, uint64_t *brought);
+/* Answers 0, with *stock the carbon left (R), *brought the carbon brought in (T) and *released the carbon released so far,
+ * over all types, in mg. Answers 3 with all three 0 when the ledger is unsound. */
+uint8_t landfill_totals(const uint8_t *ledger, size_t ledger_len, uint64_t *stock, uint64_t *brought,
+                        uint64_t *released);
 
 /* Answers the decay table's entry: what is left of 1,000,000,000 parts after one period, rounded down.
  * kind is 1 by year or 2 by month, rate the yearly rate in thousandths, 1 to 400. Anything else gives 0. */
@@ -317,6 +333,14 @@ static inline uint64_t landfill_get_release(const uint8_t *answer, unsigned type
 {
     if (type < 1 || type > LANDFILL_TYPES) return 0;
     return landfill_get(answer + LANDFILL_ANSWER_AT_RELEASES + 8 * (type - 1), 8);
+}
+
+/* The carbon that a type, 1 to 8, has released so far, in mg, from the 200 bytes of a ledger image; 0 for a number that is no
+ * type. It looks at nothing else: landfill_totals says whether the image is sound. */
+static inline uint64_t landfill_get_released_so_far(const uint8_t *ledger, unsigned type)
+{
+    if (type < 1 || type > LANDFILL_TYPES) return 0;
+    return landfill_get(ledger + LANDFILL_LEDGER_AT_RELEASED + 8 * (type - 1), 8);
 }
 
 /* Tonnes as a whole number of kilograms, for landfill_cell: the nearest, half a kilogram going up. What can be no mass

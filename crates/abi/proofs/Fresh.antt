@@ -8,8 +8,8 @@ use Rattle.ledger.specs.Stock.{fresh}
 use Rattle.image.specs.Image.{imageBytes, imageOf}
 use Rattle.abi.specs.Entries.{freshLeft}
 
--- The image of a fresh ledger is 136 zeros.
-pub fresh-zeros : imageOf fresh ≡ replicate 136 0
+-- The image of a fresh ledger is all zero.
+pub fresh-zeros : imageOf fresh ≡ replicate imageBytes 0
 unfolding imageOf fresh
 fresh-zeros = refl
 

@@ -9,9 +9,9 @@ use Rattle.image.specs.Image.{imageBytes}
 use Rattle.door.specs.declared.Cell.{Cell}
 use Rattle.door.specs.declared.Cell.the-variants.{Empty, Number}
 
--- A fresh image, or 3 for a buffer that is not 136 bytes.
+-- A fresh image, all zero; a buffer of another length keeps its bytes.
 unfoldable pub freshLeft : List ℕ → List ℕ
-freshLeft image = cond (eqb (length image) imageBytes) (replicate 136 0) image
+freshLeft image = cond (eqb (length image) imageBytes) (replicate imageBytes 0) image
 
 -- A cell that is not filled is empty.
 abbrev pub cellOf : (filled : ℕ) (kg : Float) → Cell

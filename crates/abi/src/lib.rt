@@ -25,7 +25,7 @@ pub extern "C" fn landfill_entry(kind: u8, rate: u16) -> u32
     decay::entry(kind, rate)
 }
 
-// Writes the image of a fresh ledger, all zero; a buffer that is not 136 bytes is refused with 3.
+// Writes the image of a fresh ledger, all zero; a buffer that is not 200 bytes is refused with 3.
 #[no_mangle]
 pub extern "C" fn landfill_fresh(ledger: &mut [u8]) -> u8
     ensures { λ r. ⌜ r ≡ cond (eqb (length (now (ledger .entry))) imageBytes) 0 3 ⌝ }
@@ -71,16 +71,23 @@ pub extern "C" fn landfill_run(
     calls::run(ledger, records, out, accepted)
 }
 
-// Answers 0 and the carbon left and brought in over all types, in mg; an unsound ledger gives 3 and zeros.
+// Answers 0 and the carbon left, brought in and released so far over all types, in mg; an unsound ledger gives 3 and zeros.
 #[no_mangle]
-pub extern "C" fn landfill_totals(ledger: &[u8], stock: &mut u64, brought: &mut u64) -> u8
+pub extern "C" fn landfill_totals(
+    ledger: &[u8],
+    stock: &mut u64,
+    brought: &mut u64,
+    released: &mut u64,
+) -> u8
     ensures { λ r. ⌜ r ≡ totalsOf (ledgerOf (now (ledger .entry))) .refusal ⌝ }
     ensures { λ _. ⌜ now (stock .exit) ≡ totalsOf (ledgerOf (now (ledger .entry))) .stock ⌝ }
     ensures { λ _. ⌜ now (brought .exit) ≡ totalsOf (ledgerOf (now (ledger .entry))) .brought ⌝ }
+    ensures { λ _. ⌜ now (released .exit) ≡ totalsOf (ledgerOf (now (ledger .entry))) .released ⌝ }
 {
     let totals = image::read(ledger).totals();
     *stock = totals.stock;
     *brought = totals.brought;
+    *released = totals.released;
     totals.refusal
 }
 

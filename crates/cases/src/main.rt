@@ -36,8 +36,8 @@ fn judged(letter: u8, length: usize) -> u8
 {
     match letter {
         b'd' => within(3, length, 3),
-        b's' => within(138, length, LONGEST),
-        b'r' => within(140, length, LONGEST),
+        b's' => within(ledger_cases::STEP_HEAD, length, LONGEST),
+        b'r' => within(ledger_cases::RUN_HEAD, length, LONGEST),
         b'l' => within(0, length, LONGEST),
         b'c' => within(9, length, 9),
         b'p' => within(16, length, 16),

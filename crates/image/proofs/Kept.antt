@@ -1,16 +1,17 @@
 -- The image of a ledger that can be kept says that ledger again; every ledger that the library answers to one can be kept.
-use mathlib.Core.Path.{_≡_, refl, sym, _∙_}
+use mathlib.Core.Path.{_≡_, refl, sym, ap, _∙_}
 use mathlib.Core.Bool.{Bool, true, false}
 use mathlib.Core.List.{List, [], _∷_}
-use Prim.Native.Nat.{ℕ, _-_, _^_, _<_}
+use Prim.Native.Nat.{ℕ, _+_, _-_, _*_, _^_, _<_}
 use native.Mathlib.Decide.{ℕ-discrete}
 use native.Mathlib.Omega.{arith}
 use lib.Dec.{lit<}
 use Rattle.numbers.specs.Bytes.{numberAt, bytesOf}
 use Rattle.numbers.specs.Eight.{eight}
 use Rattle.numbers.proofs.Bytes.{read-back}
+use Rattle.numbers.proofs.Eight.{eight-at}
 use Rattle.record.specs.Fields.{recordBytes}
-use Rattle.ledger.specs.Stock.{fresh, broughtAt, stockAt, after}
+use Rattle.ledger.specs.Stock.{fresh, broughtAt, stockAt, releasedAt, after}
 use Rattle.ledger.specs.Refusal.{sound, allZero, emptyAt, refusalOf}
 use Rattle.ledger.specs.Take.{acceptedOf, takeOf}
 use Rattle.ledger.specs.History.{Offer, turns, ledgerAfter, runOf}
@@ -44,6 +45,9 @@ module _ (l : Ledger) (k : Kept l) where
   R-fits : (t : ℕ) → t < 8 → stockAt l t < 2 ^ 64
   R-fits t h = let w = sound-is l (k .is-sound) .at t h in omega (arith, w .kept, w .small)
 
+  released-fits : (t : ℕ) → t < 8 → releasedAt l t < 2 ^ 64
+  released-fits t h = let w = sound-is l (k .is-sound) .at t h in omega (arith, w .parted, w .small)
+
   said-again : saidBy (imageOf l) ≡ l
   unfolding imageOf saidBy
   said-again = λ i. record {
@@ -52,7 +56,13 @@ module _ (l : Ledger) (k : Kept l) where
     climate = l .climate;
     brought = (row-back (broughtAt l) T-fits ∙ sym (k .brought)) i;
     stock = (row-back (stockAt l) R-fits ∙ sym (k .stock)) i;
+    released = (row-back (releasedAt l) released-fits ∙ sym (k .released)) i;
   }
+
+  -- What each type has released so far stands behind R.
+  pub released-stands : (t : ℕ) → t < 8 → numberAt 8 (imageOf l) (136 + 8 * t) ≡ releasedAt l t
+  unfolding saidBy
+  released-stands t h = sym (eight-at (λ u. numberAt 8 (imageOf l) (136 + 8 * u)) t h) ∙ ap (λ (m : Ledger). releasedAt m t) said-again
 
   image-is-one : isImage (imageOf l) ≡ true
   unfolding isImage imageOf
@@ -65,7 +75,7 @@ module _ (l : Ledger) (k : Kept l) where
 
 pub fresh-kept : Kept fresh
 unfolding fresh sound allZero emptyAt
-fresh-kept = record { is-sound = refl; brought = refl; stock = refl }
+fresh-kept = record { is-sound = refl; brought = refl; stock = refl; released = refl }
 
 -- A sound ledger that bytes say can be kept.
 pub said-kept : (image : List ℕ) → sound (ledgerOf image) ≡ true → Kept (ledgerOf image)
@@ -73,14 +83,14 @@ unfolding ledgerOf saidBy noLedger
 said-kept image e = by (isImage image) refl
   where
     by : (b : Bool) → isImage image ≡ b → Kept (ledgerOf image)
-    by true i = simp i (record { is-sound = simp i at e; brought = refl; stock = refl })
-    by false i = simp i (record { is-sound = simp i at e; brought = refl; stock = refl })
+    by true i = simp i (record { is-sound = simp i at e; brought = refl; stock = refl; released = refl })
+    by false i = simp i (record { is-sound = simp i at e; brought = refl; stock = refl; released = refl })
 
 -- The ledger after an accepted record, whatever ledger took it,
 pub accepted-kept : (l : Ledger) (bytes : List ℕ) (room : ℕ) → refusalOf l bytes room ≡ 0 → Kept (acceptedOf l bytes .ledger)
 unfolding acceptedOf after
 accepted-kept l bytes room e =
-    record { is-sound = accepted-sound l bytes (accepted l bytes room e); brought = refl; stock = refl }
+    record { is-sound = accepted-sound l bytes (accepted l bytes room e); brought = refl; stock = refl; released = refl }
 
 -- so the ledger after any record,
 pub step-kept : (l : Ledger) (bytes : List ℕ) (room : ℕ) → Kept l → Kept (takeOf l bytes room .ledger)

@@ -1,4 +1,4 @@
--- The ledger as the 136 bytes that pass between the package and the library.
+-- The ledger as the 200 bytes that pass between the package and the library.
 use mathlib.Core.Path.{_≡_}
 use mathlib.Core.Bool.{Bool, true, cond, _&&_}
 use mathlib.Core.List.{List, _++_}
@@ -8,22 +8,22 @@ use lib.ListN.{length, getD}
 use Rattle.numbers.specs.Bytes.{numberAt, rowOf}
 use Rattle.numbers.specs.Eight.{eight}
 use Rattle.output.specs.Output.{headOf}
-use Rattle.ledger.specs.Stock.{broughtAt, stockAt}
+use Rattle.ledger.specs.Stock.{broughtAt, stockAt, releasedAt}
 use Rattle.ledger.specs.Refusal.{sound}
 use Rattle.ledger.specs.declared.book.Ledger.{Ledger}
 
 abbrev pub imageBytes : ℕ
-imageBytes = 136
+imageBytes = 200
 
--- n in 2 bytes, kind, climate, four zero bytes, then T and R of types 1 to 8 in 8 bytes each.
+-- n in 2 bytes, kind, climate, four zero bytes, then T, R and released so far of types 1 to 8 in 8 bytes each.
 unfoldable pub imageOf : Ledger → List ℕ
-imageOf l = headOf (l .n) (l .kind) (l .climate) ++ rowOf (broughtAt l) 8 ++ rowOf (stockAt l) 8
+imageOf l = headOf (l .n) (l .kind) (l .climate) ++ rowOf (broughtAt l) 8 ++ rowOf (stockAt l) 8 ++ rowOf (releasedAt l) 8
 
--- The image is written over 136 bytes; any other buffer keeps its bytes.
+-- The image is written over 200 bytes; any other buffer keeps its bytes.
 unfoldable pub imaged : Ledger → List ℕ → List ℕ
 imaged l out = cond (eqb (length out) imageBytes) (imageOf l) out
 
--- The ledger that 136 bytes say.
+-- The ledger that 200 bytes say.
 unfoldable pub saidBy : List ℕ → Ledger
 saidBy image =
     record {
@@ -32,21 +32,23 @@ saidBy image =
       climate = getD image 3 0;
       brought = eight (λ t. numberAt 8 image (8 + 8 * t));
       stock = eight (λ t. numberAt 8 image (72 + 8 * t));
+      released = eight (λ t. numberAt 8 image (136 + 8 * t));
     }
 
--- An image has 136 bytes, and its four zero bytes are zero.
+-- An image has 200 bytes, and its four zero bytes are zero.
 unfoldable pub isImage : List ℕ → Bool
 isImage image = eqb (length image) imageBytes && eqb (numberAt 4 image 4) 0
 
 -- Bytes that are no image count as an unsound ledger, one with too many records.
 unfoldable pub noLedger : Ledger
-noLedger = record { n = 65535; kind = 0; climate = 0; brought = eight (λ t. 0); stock = eight (λ t. 0) }
+noLedger = record { n = 65535; kind = 0; climate = 0; brought = eight (λ t. 0); stock = eight (λ t. 0); released = eight (λ t. 0) }
 
 unfoldable pub ledgerOf : List ℕ → Ledger
 ledgerOf image = cond (isImage image) (saidBy image) noLedger
 
--- A ledger that can be kept in an image: sound, with eight numbers for T and eight for R.
+-- A ledger that can be kept in an image: sound, with eight numbers for T, for R and for what was released.
 pub record Kept (l : Ledger) : Type 0 where
   pub is-sound : sound l ≡ true
   pub brought : l .brought ≡ eight (broughtAt l)
   pub stock : l .stock ≡ eight (stockAt l)
+  pub released : l .released ≡ eight (releasedAt l)

@@ -1,13 +1,13 @@
-// The ledger as 136 bytes, for whoever keeps it between calls or hands it over from another language: read from an image, and
+// The ledger as 200 bytes, for whoever keeps it between calls or hands it over from another language: read from an image, and
 // written as one. The entries for C and the program that runs test vectors call it.
 ghost use mathlib.Core.Path.{_≡_};
 ghost use Rattle.image.specs.Image.{isImage, ledgerOf, imaged};
 use ledger::Ledger;
 
 // The bytes of an image.
-pub const BYTES: usize = 136;
+pub const BYTES: usize = 200;
 
-// Tells whether bytes are an image: 136 of them, and the four zero bytes zero.
+// Tells whether bytes are an image: 200 of them, and the four zero bytes zero.
 fn is_image(bytes: &[u8]) -> bool
     ensures { λ r. ⌜ r ≡ isImage (now (bytes .entry)) ⌝ }
 {
@@ -28,6 +28,7 @@ pub fn read(bytes: &[u8]) -> Ledger
             climate: bytes[3],
             brought: numbers::read_eight(bytes, 8),
             stock: numbers::read_eight(bytes, 72),
+            released: numbers::read_eight(bytes, 136),
         };
     }
     let mut none = Ledger::fresh();
@@ -35,7 +36,7 @@ pub fn read(bytes: &[u8]) -> Ledger
     none
 }
 
-// Writes the image of a ledger. A buffer that is not 136 bytes keeps its values.
+// Writes the image of a ledger. A buffer that is not 200 bytes keeps its values.
 pub fn write(out: &mut [u8], ledger: Ledger)
     ensures { λ _. ⌜ now (out .exit) ≡ imaged ledger (now (out .entry)) ⌝ }
 {
@@ -44,7 +45,9 @@ pub fn write(out: &mut [u8], ledger: Ledger)
     }
     let brought = ledger.brought;
     let stock = ledger.stock;
+    let released = ledger.released;
     output::write_head(out, ledger.n, ledger.kind, ledger.climate);
     numbers::write_eight(out, 8, brought);
     numbers::write_eight(out, 72, stock);
+    numbers::write_eight(out, 136, released);
 }

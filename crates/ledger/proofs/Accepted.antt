@@ -12,20 +12,20 @@ use Rattle.numbers.specs.Eight.{everyOf}
 use Rattle.numbers.specs.Fault.{firstOf, ahead}
 use Rattle.numbers.proofs.Eight.{both-true, all-true, every-at, eight-at}
 use Rattle.numbers.proofs.Fault.{isBad, clear, parted}
-use Rattle.numbers.proofs.Split.{share-most}
 use Rattle.decay.specs.Series.{isKind}
-use Rattle.decay.proofs.Rule.{entry-below}
-use Rattle.waste.specs.Waste.{carbonOf, rateOf, isClimate}
+use Rattle.waste.specs.Waste.{carbonOf, isClimate}
 use Rattle.record.specs.Fields.{recordBytes, periodOf, kindOf, climateOf, factorsOf, depositOf}
 use Rattle.record.specs.Ranges.{codes, coded, inRange, light}
 use Rattle.record.proofs.Laws.{mass-light}
 use Rattle.stock.specs.Stock.{mostRecords, mostBrought, entryAt, ceilingOf}
-use Rattle.ledger.specs.Stock.{leftOf, newBrought, held, newStock, release, after}
+use Rattle.stock.proofs.Laws.{entry-small}
+use Rattle.ledger.specs.Stock.{newBrought, held, newStock, release, newReleased, after}
 use Rattle.refusal.specs.Refusal.{continues, faultsOf}
 use Rattle.ledger.specs.Refusal.{sound, refusalOf}
 use Rattle.ledger.specs.Take.{acceptedOf}
 use Rattle.ledger.specs.declared.book.Ledger.{Ledger}
 use Rattle.ledger.proofs.Sound.{Sound, sound-is, is-sound}
+use Rattle.ledger.proofs.Step.{left-most}
 
 module _ (l : Ledger) (bytes : List ℕ) (room : ℕ) (e : refusalOf l bytes room ≡ 0) where
   -- The fault with a number is not there.
@@ -98,13 +98,6 @@ unfolding refusalOf faultsOf
 room-alike l bytes room more h k = simp (le-ltb room recordBytes h, le-ltb more recordBytes k)
 
 module _ (l : Ledger) (bytes : List ℕ) (a : Accepted l bytes) (t : ℕ) (h : t < 8) where
-  pub new-kept : newStock l bytes t ≤ newBrought l bytes t
-  unfolding newStock newBrought held leftOf entryAt
-  new-kept =
-      let D = entryAt (kindOf bytes) (climateOf bytes) t in
-      let most : D ≤ 10 ^ 9 = omega (arith, entry-below (kindOf bytes) (rateOf (t + 1) (climateOf bytes))) in
-      omega (arith, share-most (held l bytes t) D (10 ^ 9) most, a .ledger .at t h .kept)
-
   pub new-within : newBrought l bytes t ≤ ceilingOf (l .n + 1) t
   unfolding newBrought depositOf ceilingOf
   new-within = omega (arith, mul-le-mul-right (carbonOf (t + 1) * 100) (mass-light bytes t (a .light-each t h)), a .ledger .at t h .ceiling)
@@ -113,24 +106,32 @@ module _ (l : Ledger) (bytes : List ℕ) (a : Accepted l bytes) (t : ℕ) (h : t
   unfolding release held newBrought
   release-most = omega (arith, a .ledger .at t h .kept)
 
--- Inert waste, type 6, has a ceiling of 0, and so T, R and G of 0.
+  pub new-parted : newReleased l bytes t + newStock l bytes t ≡ newBrought l bytes t
+  unfolding newReleased release newStock held newBrought
+  new-parted =
+      let D = entryAt (kindOf bytes) (climateOf bytes) t in
+      omega (arith, a .ledger .at t h .parted, left-most (held l bytes t) D (entry-small (kindOf bytes) (climateOf bytes) t))
+
+-- Inert waste, type 6, has a ceiling of 0, and so T, R, G and released of 0.
 pub record NoneAt (l : Ledger) (bytes : List ℕ) (t : ℕ) : Type 0 where
   pub T : newBrought l bytes t ≡ 0
   pub R : newStock l bytes t ≡ 0
   pub G : release l bytes t ≡ 0
+  pub released : newReleased l bytes t ≡ 0
 
 pub no-carbon : (l : Ledger) (bytes : List ℕ) → Accepted l bytes → NoneAt l bytes 5
 unfolding ceilingOf carbonOf
 no-carbon l bytes a =
     let T : newBrought l bytes 5 ≡ 0 = omega (arith, new-within l bytes a 5 (omega arith)) in
-    record { T = T; R = omega (arith, new-kept l bytes a 5 (omega arith)); G = omega (arith, release-most l bytes a 5 (omega arith)) }
+    let parts = new-parted l bytes a 5 (omega arith) in
+    record { T = T; R = omega (arith, parts); G = omega (arith, release-most l bytes a 5 (omega arith)); released = omega (arith, parts) }
 
 -- A sound ledger that takes a record is sound again.
 pub stays-sound : (l : Ledger) (bytes : List ℕ) → Accepted l bytes → sound (after l bytes) ≡ true
 unfolding after
 stays-sound l bytes a =
     is-sound (after l bytes) (omega (arith, a .more)) (λ z. omega arith) (simp (a .kind, a .climate))
-    (λ t h. rw (eight-at (newBrought l bytes) t h, eight-at (newStock l bytes) t h) (new-kept l bytes a t h, new-within l bytes a t h))
+    (λ t h. rw (eight-at (newBrought l bytes) t h, eight-at (newStock l bytes) t h, eight-at (newReleased l bytes) t h) (new-within l bytes a t h, new-parted l bytes a t h))
 
 -- The ledger of an accepted answer is sound.
 pub accepted-sound : (l : Ledger) (bytes : List ℕ) → Accepted l bytes → sound (acceptedOf l bytes .ledger) ≡ true
@@ -147,4 +148,4 @@ pub new-small : (l : Ledger) (bytes : List ℕ) → Accepted l bytes → (t : �
 unfolding after
 new-small l bytes a t h =
     let T : newBrought l bytes t ≤ mostBrought = rw (eight-at (newBrought l bytes) t h) at (sound-is (after l bytes) (stays-sound l bytes a) .at t h .small) in
-    record { T = T; R = omega (arith, new-kept l bytes a t h); G = omega (arith, release-most l bytes a t h) }
+    record { T = T; R = omega (arith, new-parted l bytes a t h); G = omega (arith, release-most l bytes a t h) }

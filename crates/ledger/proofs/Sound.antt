@@ -1,30 +1,31 @@
 -- What a sound ledger holds of each type, and that a ledger of which all that holds is sound.
 use mathlib.Core.Path.{_≡_, refl, sym, _∙_}
 use mathlib.Core.Bool.{Bool, true, false, cond, _&&_, and-false}
-use Prim.Native.Nat.{ℕ, zero, suc, _≤_, _<_}
+use Prim.Native.Nat.{ℕ, zero, suc, _+_, _≤_, _<_}
 use native.Mathlib.Decide.{ℕ-discrete}
-use native.Mathlib.Nat.{zero-mul}
+use native.Mathlib.Nat.{zero-mul, add-zero}
 use native.Mathlib.Omega.{arith}
 use borrow.Author.Tests.{eq-eqb, ne-eqb, le-leb, leb-true, eqb-true}
 use lib.Dec.{eqb, leb, leb·suc-zero, eqb·suc-zero}
 use Rattle.numbers.specs.Eight.{everyOf}
-use Rattle.numbers.proofs.Eight.{both-true, every-at, every-each, every-same}
+use Rattle.numbers.proofs.Eight.{both-true, three-true, every-at, every-each, every-same}
 use Rattle.decay.specs.Series.{isKind}
 use Rattle.waste.specs.Waste.{isClimate}
 use Rattle.stock.specs.Stock.{mostRecords, mostBrought, ceilingOf, withinOf}
 use Rattle.stock.proofs.Laws.{ceiling-most}
-use Rattle.ledger.specs.Stock.{broughtAt, stockAt}
+use Rattle.ledger.specs.Stock.{broughtAt, stockAt, releasedAt}
 use Rattle.ledger.specs.Refusal.{sound, blank, inCode, allZero, inOrder, emptyAt, withinAt}
 use Rattle.ledger.specs.declared.book.Ledger.{Ledger}
 
--- Of each type R is at most T, and T at most its ceiling, which is at most that of wood.
+-- Of each type R is at most T, and T at most its ceiling, which is at most that of wood; released and R make up T.
 pub record WithinCeiling (l : Ledger) (t : ℕ) : Type 0 where
   pub kept : stockAt l t ≤ broughtAt l t
   pub ceiling : broughtAt l t ≤ ceilingOf (l .n) t
   pub small : broughtAt l t ≤ mostBrought
+  pub parted : releasedAt l t + stockAt l t ≡ broughtAt l t
 
-within : (l : Ledger) (t : ℕ) → l .n ≤ mostRecords → stockAt l t ≤ broughtAt l t → broughtAt l t ≤ ceilingOf (l .n) t → WithinCeiling l t
-within l t few kept high = record { kept = kept; ceiling = high; small = omega (arith, ceiling-most (l .n) t few) }
+within : (l : Ledger) (t : ℕ) → l .n ≤ mostRecords → broughtAt l t ≤ ceilingOf (l .n) t → releasedAt l t + stockAt l t ≡ broughtAt l t → WithinCeiling l t
+within l t few high parts = record { kept = omega arith; ceiling = high; small = omega (arith, ceiling-most (l .n) t few); parted = parts }
 
 pub record Sound (l : Ledger) : Type 0 where
   pub few : l .n ≤ mostRecords
@@ -36,12 +37,13 @@ empty : (l : Ledger) → l .n ≤ mostRecords → l .n ≡ 0 → allZero l ≡ t
 unfolding allZero emptyAt
 empty l few z e =
     let p = both-true (blank l) (everyOf (emptyAt l) 8) e in
-    let at : (t : ℕ) → t < 8 → (broughtAt l t ≡ 0) × (stockAt l t ≡ 0)
-    = λ t h. let q = both-true (eqb (broughtAt l t) 0) (eqb (stockAt l t) 0) (every-at (emptyAt l) 8 t h (p .1)) in
-    (eqb-true (broughtAt l t) 0 (q .0), eqb-true (stockAt l t) 0 (q .1)) in
+    let at : (t : ℕ) → t < 8 → WithinCeiling l t
+    = λ t h. let q = three-true (eqb (broughtAt l t) 0) (eqb (stockAt l t) 0) (eqb (releasedAt l t) 0) (every-at (emptyAt l) 8 t h (p .1)) in
+    let T = eqb-true (broughtAt l t) 0 (q .0) in
+    within l t few (omega (arith, T)) (omega (arith, T, eqb-true (stockAt l t) 0 (q .1 .0), eqb-true (releasedAt l t) 0 (q .1 .1))) in
     record {
       few = few;
-      at = λ t h. within l t few (omega (arith, at t h)) (omega (arith, at t h));
+      at = at;
       coded = λ n. absurd (n z);
     }
 
@@ -50,11 +52,12 @@ ordered : (l : Ledger) → l .n ≤ mostRecords → inOrder l ≡ true → Sound
 unfolding inOrder withinAt withinOf
 ordered l few e =
     let p = both-true (inCode l) (everyOf (withinAt l) 8) e in
-    let at : (t : ℕ) → t < 8 → (leb (broughtAt l t) (ceilingOf (l .n) t) ≡ true) × (leb (stockAt l t) (broughtAt l t) ≡ true)
-    = λ t h. both-true (leb (broughtAt l t) (ceilingOf (l .n) t)) (leb (stockAt l t) (broughtAt l t)) (every-at (withinAt l) 8 t h (p .1)) in
+    let at : (t : ℕ) → t < 8 → WithinCeiling l t
+    = λ t h. let q = three-true (leb (broughtAt l t) (ceilingOf (l .n) t)) (leb (stockAt l t) (broughtAt l t)) (eqb (releasedAt l t + stockAt l t) (broughtAt l t)) (every-at (withinAt l) 8 t h (p .1)) in
+    within l t few (leb-true (broughtAt l t) (ceilingOf (l .n) t) (q .0)) (eqb-true (releasedAt l t + stockAt l t) (broughtAt l t) (q .1 .1)) in
     record {
       few = few;
-      at = λ t h. within l t few (leb-true (stockAt l t) (broughtAt l t) (at t h .1)) (leb-true (broughtAt l t) (ceilingOf (l .n) t) (at t h .0));
+      at = at;
       coded = λ n. both-true (isKind (l .kind)) (isClimate (l .climate)) (p .0);
     }
 
@@ -70,22 +73,26 @@ sound-is l e =
 
 -- A ledger with records, in order, is sound.
 pub is-sound : (l : Ledger) → l .n ≤ mostRecords → (l .n ≡ 0 → ⊥) → inCode l ≡ true
-    → ((t : ℕ) → t < 8 → (stockAt l t ≤ broughtAt l t) × (broughtAt l t ≤ ceilingOf (l .n) t)) → sound l ≡ true
+    → ((t : ℕ) → t < 8 → (broughtAt l t ≤ ceilingOf (l .n) t) × (releasedAt l t + stockAt l t ≡ broughtAt l t)) → sound l ≡ true
 unfolding sound inOrder withinAt withinOf
 is-sound l few some code at =
     let every : everyOf (withinAt l) 8 ≡ true
-    = every-each (withinAt l) 8 (λ t h. simp (le-leb (broughtAt l t) (ceilingOf (l .n) t) (at t h .1), le-leb (stockAt l t) (broughtAt l t) (at t h .0))) in
+    = every-each (withinAt l) 8 (λ t h. let p = at t h in simp (
+      le-leb (broughtAt l t) (ceilingOf (l .n) t) (p .0),
+      le-leb (stockAt l t) (broughtAt l t) (omega (arith, p .1)),
+      eq-eqb (releasedAt l t + stockAt l t) (broughtAt l t) (p .1),
+    )) in
     simp (le-leb (l .n) mostRecords few, ne-eqb (l .n) 0 some, code, every)
 
--- With no records T and R within a ceiling of 0 are T and R of 0, so one test over the types serves every sound ledger.
-none-within : (T R : ℕ) → (leb T 0 && leb R T) ≡ (eqb T 0 && eqb R 0)
-none-within zero zero = refl
-none-within zero (suc R) = simp (leb·suc-zero, eqb·suc-zero)
-none-within (suc T) R = simp (leb·suc-zero, eqb·suc-zero)
+-- With no records T within a ceiling of 0 is 0, and so are its parts: one test over the types serves every sound ledger.
+none-within : (T R released : ℕ) → (leb T 0 && leb R T && eqb (released + R) T) ≡ (eqb T 0 && eqb R 0 && eqb released 0)
+none-within zero zero released = simp add-zero
+none-within zero (suc R) released = simp (leb·suc-zero, eqb·suc-zero)
+none-within (suc T) R released = simp (leb·suc-zero, eqb·suc-zero)
 
 same : (l : Ledger) (t : ℕ) → l .n ≡ 0 → withinAt l t ≡ emptyAt l t
 unfolding withinAt withinOf emptyAt ceilingOf
-same l t z = simp (z, zero-mul) (none-within (broughtAt l t) (stockAt l t))
+same l t z = simp (z, zero-mul) (none-within (broughtAt l t) (stockAt l t) (releasedAt l t))
 
 module _ (l : Ledger) where
   abbrev codes : Bool

@@ -1,14 +1,15 @@
 -- One accepted record, place by place: the deposit goes into T and H, and H is parted into the new R and the release.
 use mathlib.Core.Path.{_≡_}
 use mathlib.Core.List.{List}
-use Prim.Native.Nat.{ℕ, _+_, _^_, _≤_, _<_}
+use Prim.Native.Nat.{ℕ, _+_, _-_, _^_, _≤_, _<_}
 use native.Mathlib.Nat.{mul-le-mul-left}
 use native.Mathlib.Omega.{arith}
 use lib.ListN.{getD}
-use Rattle.numbers.proofs.Eight.{eight-at}
+use Rattle.numbers.specs.Eight.{eight}
+use Rattle.numbers.proofs.Eight.{eight-at, eight-same}
 use Rattle.record.specs.Fields.{kindOf, climateOf, depositOf}
 use Rattle.stock.specs.Stock.{entryAt}
-use Rattle.ledger.specs.Stock.{leftOf, broughtAt, stockAt, newBrought, held, newStock, release, after}
+use Rattle.ledger.specs.Stock.{leftOf, broughtAt, stockAt, releasedAt, newBrought, held, newStock, release, newReleased, after}
 use Rattle.stock.proofs.Laws.{entry-small}
 use Rattle.ledger.specs.Take.{acceptedOf}
 use Rattle.ledger.specs.declared.book.Ledger.{Ledger}
@@ -27,9 +28,13 @@ module _ (l : Ledger) (bytes : List ℕ) (t : ℕ) (place : t < 8) where
   unfolding after newStock held
   stock-after = eight-at (newStock l bytes) t place
 
-  pub released : getD (acceptedOf l bytes .releases) t 0 ≡ release l bytes t
+  pub release-answered : getD (acceptedOf l bytes .releases) t 0 ≡ release l bytes t
   unfolding acceptedOf
-  released = eight-at (release l bytes) t place
+  release-answered = eight-at (release l bytes) t place
+
+  pub released-after : releasedAt (after l bytes) t ≡ releasedAt l t + release l bytes t
+  unfolding after newReleased
+  released-after = eight-at (newReleased l bytes) t place
 
   pub balanced : release l bytes t + stockAt (after l bytes) t ≡ stockAt l t + depositOf bytes t
   unfolding release newStock held
@@ -39,3 +44,8 @@ module _ (l : Ledger) (bytes : List ℕ) (t : ℕ) (place : t < 8) where
         stock-after,
         left-most (stockAt l t + depositOf bytes t) (entryAt (kindOf bytes) (climateOf bytes) t) (entry-small (kindOf bytes) (climateOf bytes) t),
       )
+
+-- What was released between the two ledgers is the releases.
+pub released-between : (l : Ledger) (bytes : List ℕ) → eight (λ t. releasedAt (after l bytes) t - releasedAt l t) ≡ eight (release l bytes)
+released-between l bytes =
+    eight-same (λ t. releasedAt (after l bytes) t - releasedAt l t) (release l bytes) (λ t place. omega (arith, released-after l bytes t place))

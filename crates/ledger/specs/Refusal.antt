@@ -1,4 +1,4 @@
--- Document 01, refusal 3: when a ledger is sound; and the refusal of a record.
+-- Document 01, refusal 3, with what request b of document 02 adds: when a ledger is sound; and the refusal of a record.
 use mathlib.Core.Bool.{Bool, cond, _&&_}
 use mathlib.Core.List.{List}
 use Prim.Native.Nat.{ℕ}
@@ -9,12 +9,12 @@ use Rattle.decay.specs.Series.{isKind}
 use Rattle.waste.specs.Waste.{isClimate}
 use Rattle.stock.specs.Stock.{mostRecords, withinOf}
 use Rattle.refusal.specs.Refusal.{faultsOf}
-use Rattle.ledger.specs.Stock.{broughtAt, stockAt}
+use Rattle.ledger.specs.Stock.{broughtAt, stockAt, releasedAt}
 use Rattle.ledger.specs.declared.book.Ledger.{Ledger}
 
 -- A ledger with n = 0 has every other field 0.
 unfoldable pub emptyAt : Ledger → ℕ → Bool
-emptyAt l t = eqb (broughtAt l t) 0 && eqb (stockAt l t) 0
+emptyAt l t = eqb (broughtAt l t) 0 && eqb (stockAt l t) 0 && eqb (releasedAt l t) 0
 
 abbrev pub blank : Ledger → Bool
 blank l = eqb (l .kind) 0 && eqb (l .climate) 0
@@ -22,9 +22,9 @@ blank l = eqb (l .kind) 0 && eqb (l .climate) 0
 unfoldable pub allZero : Ledger → Bool
 allZero l = blank l && everyOf (emptyAt l) 8
 
--- With n > 0, kind and climate are codes, and of each type T is at most n × 10^9 × DOC × 100 and R at most T.
+-- With n > 0, kind and climate are codes, and of each type T is at most n × 10^9 × DOC × 100, R at most T, and released plus R is T.
 unfoldable pub withinAt : Ledger → ℕ → Bool
-withinAt l t = withinOf (l .n) (broughtAt l t) (stockAt l t) t
+withinAt l t = withinOf (l .n) (broughtAt l t) (stockAt l t) (releasedAt l t) t
 
 abbrev pub inCode : Ledger → Bool
 inCode l = isKind (l .kind) && isClimate (l .climate)

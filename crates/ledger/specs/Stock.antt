@@ -1,4 +1,5 @@
--- Document 01, 'One step': one type in one period, once over the kind. Place t has type t + 1; all carbon is in whole milligrams.
+-- Document 01, 'One step': one type in one period, once over the kind; and document 02, request b: what each type has released so
+-- far. Place t has type t + 1; all carbon is in whole milligrams.
 use mathlib.Core.List.{List}
 use Prim.Native.Nat.{ℕ, _+_, _-_, _*_, _/_, _^_}
 use lib.ListN.{getD}
@@ -11,14 +12,17 @@ use Rattle.ledger.specs.declared.period.Period.{Period}
 
 -- A fresh ledger is all zero.
 unfoldable pub fresh : Ledger
-fresh = record { n = 0; kind = 0; climate = 0; brought = eight (λ t. 0); stock = eight (λ t. 0) }
+fresh = record { n = 0; kind = 0; climate = 0; brought = eight (λ t. 0); stock = eight (λ t. 0); released = eight (λ t. 0) }
 
--- T, the carbon brought in, and R, the carbon left.
+-- T, the carbon brought in, R, the carbon left, and the carbon released so far.
 abbrev pub broughtAt : Ledger → ℕ → ℕ
 broughtAt l t = getD (l .brought) t 0
 
 abbrev pub stockAt : Ledger → ℕ → ℕ
 stockAt l t = getD (l .stock) t 0
+
+abbrev pub releasedAt : Ledger → ℕ → ℕ
+releasedAt l t = getD (l .released) t 0
 
 -- R becomes H × D / 10^9 rounded down.
 unfoldable pub leftOf : (H D : ℕ) → ℕ
@@ -41,9 +45,19 @@ module _ (l : Ledger) (bytes : List ℕ) (t : ℕ) where
   unfoldable pub release : ℕ
   release = held - newStock
 
+  -- released so far is 'updated by every accepted record': it grows by the release.
+  unfoldable pub newReleased : ℕ
+  newReleased = releasedAt l t + release
+
 -- What place t then has.
 unfoldable pub decayedAt : Ledger → List ℕ → (t : ℕ) → Decayed
-decayedAt l bytes t = record { brought = newBrought l bytes t; stock = newStock l bytes t; release = release l bytes t }
+decayedAt l bytes t =
+    record {
+      brought = newBrought l bytes t;
+      stock = newStock l bytes t;
+      release = release l bytes t;
+      released = newReleased l bytes t;
+    }
 
 -- x0 = the eight releases added.
 unfoldable pub x0Of : Ledger → List ℕ → ℕ
@@ -51,7 +65,13 @@ x0Of l bytes = sumOf (release l bytes) 8
 
 -- What all of them have.
 unfoldable pub periodOfAll : Ledger → List ℕ → Period
-periodOfAll l bytes = record { brought = eight (newBrought l bytes); stock = eight (newStock l bytes); x0 = x0Of l bytes }
+periodOfAll l bytes =
+    record {
+      brought = eight (newBrought l bytes);
+      stock = eight (newStock l bytes);
+      released = eight (newReleased l bytes);
+      x0 = x0Of l bytes;
+    }
 
 -- n grows by one, kind and climate become the record's.
 unfoldable pub after : Ledger → List ℕ → Ledger
@@ -62,4 +82,5 @@ after l bytes =
       climate = climateOf bytes;
       brought = eight (newBrought l bytes);
       stock = eight (newStock l bytes);
+      released = eight (newReleased l bytes);
     }

@@ -9,7 +9,7 @@ use Rattle.record.specs.Fields.{recordBytes, factorsOf}
 use Rattle.figure.specs.Figure.{figureOf, BOf, boundOf}
 use Rattle.output.specs.Output.{outputOf}
 use Rattle.output.specs.declared.Output.{Output}
-use Rattle.ledger.specs.Stock.{broughtAt, stockAt, release, x0Of, after}
+use Rattle.ledger.specs.Stock.{broughtAt, stockAt, releasedAt, release, x0Of, after}
 use Rattle.ledger.specs.Refusal.{refusalOf, sound}
 use Rattle.ledger.specs.declared.book.Ledger.{Ledger}
 use Rattle.ledger.specs.declared.answer.Answer.{Answer}
@@ -35,12 +35,15 @@ refusedOf l refusal = record { ledger = l; refusal = refusal; releases = eight (
 unfoldable pub takeOf : Ledger → List ℕ → (room : ℕ) → Answer
 takeOf l bytes room = cond (eqb (refusalOf l bytes room) 0) (acceptedOf l bytes) (refusedOf l (refusalOf l bytes room))
 
--- Total R and total T.
+-- Total R, total T, and by request b of document 02 the carbon released so far, over all types.
 unfoldable pub totalStock : Ledger → ℕ
 totalStock l = sumOf (stockAt l) 8
 
 unfoldable pub totalBrought : Ledger → ℕ
 totalBrought l = sumOf (broughtAt l) 8
+
+unfoldable pub totalReleased : Ledger → ℕ
+totalReleased l = sumOf (releasedAt l) 8
 
 -- What the output record of an answer says; its period is the n of the ledger after the record, which the record's period equals.
 unfoldable pub outputFields : Answer → Output
@@ -68,5 +71,5 @@ writtenOf l bytes out =
 unfoldable pub totalsOf : Ledger → Totals
 totalsOf l =
     cond (sound l)
-    (record { refusal = 0; stock = totalStock l; brought = totalBrought l })
-    (record { refusal = 3; stock = 0; brought = 0 })
+    (record { refusal = 0; stock = totalStock l; brought = totalBrought l; released = totalReleased l })
+    (record { refusal = 3; stock = 0; brought = 0; released = 0 })

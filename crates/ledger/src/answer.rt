@@ -19,9 +19,10 @@ pub struct Outcome {
     pub refusal: u8,
 }
 
-// The refusal (3 for an unsound ledger, else 0), and the carbon left and brought in over all types, in mg.
+// The refusal (3 for an unsound ledger, else 0), and the carbon left, brought in and released so far over all types, in mg.
 pub struct Totals {
     pub refusal: u8,
     pub stock: u64,
     pub brought: u64,
+    pub released: u64,
 }

@@ -2,15 +2,15 @@
 ghost use mathlib.Core.Bool.{cond, _&&_};
 ghost use mathlib.Core.List.{_++_};
 ghost use mathlib.Core.Path.{_≡_};
-ghost use Prim.Native.Nat.{_<_};
+ghost use Prim.Native.Nat.{ℕ, _-_, _≤_, _<_};
 ghost use lib.Dec.{eqb};
-ghost use lib.ListN.{length, drop};
+ghost use lib.ListN.{length, getD, drop};
 ghost use Rattle.numbers.specs.Eight.{eight};
 ghost use Rattle.decay.specs.Series.{isKind};
 ghost use Rattle.waste.specs.Waste.{isClimate};
 ghost use Rattle.record.specs.Fields.{kindOf, climateOf};
 ghost use Rattle.stock.specs.Stock.{entryAt};
-ghost use Rattle.ledger.specs.Stock.{fresh, newStock, release, decayedAt, periodOfAll};
+ghost use Rattle.ledger.specs.Stock.{fresh, releasedAt, decayedAt, periodOfAll};
 ghost use Rattle.ledger.specs.Refusal.{blank, inCode, sound, refusalOf};
 ghost use Rattle.ledger.specs.Take.{acceptedOf, refusedOf, outputRecord, takeOf, writtenOf, totalsOf};
 use crate::answer::Answer;
@@ -22,14 +22,15 @@ use crate::period::left;
 use output::Output;
 use record::Factors;
 
-// One site's ledger: the number n of accepted records, their kind and climate, and for each type the carbon brought in (T)
-// and the carbon left (R), in whole milligrams. Place 0 of a list is type 1.
+// One site's ledger: the number n of accepted records, their kind and climate, and for each type the carbon brought in (T),
+// the carbon left (R) and the carbon released so far, in whole milligrams. Place 0 of a list is type 1.
 pub struct Ledger {
     pub n: u16,
     pub kind: u8,
     pub climate: u8,
     pub brought: [u64; 8],
     pub stock: [u64; 8],
+    pub released: [u64; 8],
 }
 
 impl Ledger {
@@ -50,6 +51,7 @@ impl Ledger {
             climate: 0,
             brought: [0; 8],
             stock: [0; 8],
+            released: [0; 8],
         }
     }
 
@@ -69,7 +71,8 @@ impl Ledger {
     {
         let brought = self.brought;
         let left = self.stock;
-        self.is_coded() & stock::are_within(self.n, brought, left)
+        let released = self.released;
+        self.is_coded() & stock::are_within(self.n, brought, left, released)
     }
 
     // Decays one type: answers what place t has after an accepted record, given the table entries of its kind and climate.
@@ -81,10 +84,12 @@ impl Ledger {
         let deposit = record::deposit(bytes, t as u8);
         let held = self.stock[t] + deposit;
         let left = left(held, entries[t]);
+        let release = held - left;
         Decayed {
             brought: self.brought[t] + deposit,
             stock: left,
-            release: held - left,
+            release,
+            released: self.released[t] + release,
         }
     }
 
@@ -104,6 +109,7 @@ impl Ledger {
         let h = self.decay(entries, bytes, 7);
         let early = a.release + b.release + c.release + d.release;
         let later = e.release + g.release + h.release;
+        let x0 = early + later;
         Period {
             brought: [
                 a.brought,
@@ -125,7 +131,17 @@ impl Ledger {
                 g.stock,
                 h.stock,
             ],
-            x0: early + later,
+            released: [
+                a.released,
+                b.released,
+                c.released,
+                d.released,
+                e.released,
+                0,
+                g.released,
+                h.released,
+            ],
+            x0,
         }
     }
 
@@ -140,6 +156,7 @@ impl Ledger {
         let factors = Factors::of(bytes);
         let brought = all.brought;
         let stock = all.stock;
+        let released = all.released;
         let n = self.n + 1;
         let kind = record::kind(bytes);
         let climate = record::climate(bytes);
@@ -160,17 +177,18 @@ impl Ledger {
             climate,
             brought,
             stock,
+            released,
         }
     }
 
-    // Answers what each type releases by an accepted record that leaves so much: G = H - the new R.
-    fn released(self, bytes: &[u8], left: [u64; 8]) -> [u64; 8]
-        requires { ⌜ (refusalOf self (now bytes) 48 ≡ 0) × (left ≡ eight (newStock self (now bytes))) ⌝ }
-        ensures { λ r. ⌜ r ≡ eight (release self (now (bytes .entry))) ⌝ }
+    // Answers what each type released since it had released so much.
+    fn released_since(self, before: [u64; 8]) -> [u64; 8]
+        requires { ⌜ ((t : ℕ) → (t < 8 → getD before t 0 ≤ releasedAt self t)) ⌝ }
+        ensures { λ r. ⌜ r ≡ eight (λ t. releasedAt self t - getD before t 0) ⌝ }
     {
         let mut releases = [0u64; 8];
         for t in 0..8 {
-            releases[t] = self.stock[t] + record::deposit(bytes, t as u8) - left[t];
+            releases[t] = self.released[t] - before[t];
         }
         releases
     }
@@ -204,18 +222,18 @@ impl Ledger {
             return self.refused(end.refusal);
         }
         let after = end.ledger;
-        let left = after.stock;
+        let before = self.released;
         Answer {
             ledger: after,
             refusal: 0,
-            releases: self.released(bytes, left),
+            releases: after.released_since(before),
             x0: numbers::read_u64(out, 8),
             figure: numbers::read_u64(out, 16),
             bound: numbers::read_u64(out, 24),
         }
     }
 
-    // Answers the carbon left and the carbon brought in over all types; an unsound ledger is refused with 3.
+    // Answers the carbon left, brought in and released so far over all types; an unsound ledger is refused with 3.
     pub fn totals(self) -> Totals
         ensures { λ r. ⌜ r ≡ totalsOf self ⌝ }
     {
@@ -224,14 +242,17 @@ impl Ledger {
                 refusal: 3,
                 stock: 0,
                 brought: 0,
+                released: 0,
             };
         }
         let stock = self.stock;
         let brought = self.brought;
+        let released = self.released;
         Totals {
             refusal: 0,
             stock: stock::total(stock),
             brought: stock::total(brought),
+            released: stock::total(released),
         }
     }
 }

@@ -4,9 +4,15 @@
 ghost use mathlib.Core.Path.{_≡_};
 ghost use Prim.Native.Nat.{_≤_};
 ghost use lib.ListN.{length};
+ghost use Rattle.image.specs.Image.{imageBytes};
 use ledger::Answer;
 use ledger::Ledger;
 use ledger::Outcome;
+
+// What stands ahead of a step's record, and of a run's records: the image, and the room in 2 bytes or in 4.
+pub const STEP_HEAD: usize = image::BYTES + 2;
+
+pub const RUN_HEAD: usize = image::BYTES + 4;
 
 // The longest output that is lent.
 const LONGEST: usize = 65536;
@@ -34,18 +40,20 @@ fn output() -> [u8; LONGEST]
 
 // Answers the ledger of a payload, whose image stands first.
 fn ledger_of(payload: &[u8]) -> Ledger
-    requires { ⌜ 136 ≤ length (now payload) ⌝ }
+    requires { ⌜ imageBytes ≤ length (now payload) ⌝ }
 {
     image::read(&payload[0..image::BYTES])
 }
 
-// Prints the 19 numbers of a ledger with a space after each.
+// Prints the 27 numbers of a ledger with a space after each.
 fn put_ledger(ledger: Ledger) {
     let brought = ledger.brought;
     let stock = ledger.stock;
+    let released = ledger.released;
     print::three(ledger.n as u64, ledger.kind as u64, ledger.climate as u64);
     print::eight(brought);
     print::eight(stock);
+    print::eight(released);
 }
 
 // Prints the numbers of a step's answer with a space after each.
@@ -62,13 +70,13 @@ fn put_answer(answer: Answer) {
 pub fn step(payload: &[u8])
     ensures { λ r. ⌜ r ≡ tt ⌝ }
 {
-    if payload.len() < 138 {
+    if payload.len() < STEP_HEAD {
         return;
     }
     let mut out = output();
-    let room = numbers::read_u16(payload, 136) as usize;
+    let room = numbers::read_u16(payload, image::BYTES) as usize;
     let lent = &mut out[0..room];
-    let answer = ledger_of(payload).take(&payload[138..], lent);
+    let answer = ledger_of(payload).take(&payload[STEP_HEAD..], lent);
     put_answer(answer);
     print::bytes(lent);
 }
@@ -96,13 +104,13 @@ fn room_of(asked: u64) -> usize
 pub fn run(payload: &[u8])
     ensures { λ r. ⌜ r ≡ tt ⌝ }
 {
-    if payload.len() < 140 {
+    if payload.len() < RUN_HEAD {
         return;
     }
     let mut out = output();
-    let room = room_of(numbers::read_u32(payload, 136));
+    let room = room_of(numbers::read_u32(payload, image::BYTES));
     let lent = &mut out[0..room];
-    let outcome = ledger::run(ledger_of(payload), &payload[140..], lent);
+    let outcome = ledger::run(ledger_of(payload), &payload[RUN_HEAD..], lent);
     put_outcome(outcome);
     print::bytes(lent);
 }

@@ -1,24 +1,27 @@
 -- Whatever is offered, what comes of it is a fresh ledger and then accepted records, one after another: promises go by induction on
 -- these.
-use mathlib.Core.Path.{_≡_, refl}
+use mathlib.Core.Path.{_≡_, refl, ap, _∙_}
 use mathlib.Core.Bool.{true}
 use mathlib.Core.List.{List, [], _∷_, _++_, map-append, append-nil, append-assoc}
-use Prim.Native.Nat.{ℕ, _≤_, _<_}
+use Prim.Native.Nat.{ℕ, _+_, _≤_, _<_}
 use native.Mathlib.Numerals.{add-one}
 use native.Mathlib.Omega.{arith}
 use native.Mathlib.Decide.{ℕ-discrete}
 use lib.ListN.{length, getD}
-use Rattle.numbers.proofs.Eight.{eight-at}
+use Rattle.numbers.specs.Eight.{sumOf}
+use Rattle.numbers.specs.Lists.{added}
+use Rattle.numbers.proofs.Eight.{sum-plus, eight-at}
 use Rattle.numbers.proofs.Lists.{length-more, added-more}
 use Rattle.decay.specs.Series.{isKind}
 use Rattle.waste.specs.Waste.{isClimate}
 use Rattle.record.specs.Fields.{depositOf}
-use Rattle.ledger.specs.Stock.{fresh, after}
+use Rattle.ledger.specs.Stock.{fresh, releasedAt, release, newReleased, x0Of, after}
 use Rattle.ledger.specs.Refusal.{refusalOf}
+use Rattle.ledger.specs.Take.{acceptedOf, totalReleased}
 use Rattle.ledger.specs.History.{Offer, Turn}
 use Rattle.ledger.proofs.Accepted as step
 use Rattle.ledger.proofs.History.{acceptedTurn}
-use Rattle.ledger.proofs.Step.{brought-after, released, balanced}
+use Rattle.ledger.proofs.Step.{brought-after, release-answered, released-after, balanced}
 use Rattle.promises.specs.Offering.{Offering, offeringTo, offering, recordsIn}
 use Rattle.promises.specs.Promises.{Conserved}
 use Rattle.promises.proofs.Offering.{offering-ends, offering-goes-on, offering-passes-over, behind}
@@ -67,14 +70,27 @@ kind-and-climate _ (one-more o bytes room r e) h = let a = step.accepted (o .led
 -- Deposits are parted into releases and stock at each record, and so all in all.
 pub conserved : (t : ℕ) → t < 8 → (o : Offering) → OneByOne o → Conserved o t
 unfolding fresh
-conserved t place _ none-yet = record { balance = rw (eight-at (λ _. 0) t place); deposited = eight-at (λ _. 0) t place }
+conserved t place _ none-yet =
+    let zero = eight-at (λ _. 0) t place in
+    record { reported = zero; balance = rw zero; deposited = zero }
 conserved t place _ (one-more o bytes room r e) =
     let c = conserved t place o r in
     record {
+      reported =
+          rw (added-more (λ (turn : Turn). getD (turn .answer .releases) t 0) (o .accepted) (acceptedTurn (o .ledger) bytes), release-answered (o .ledger) bytes t place)
+          (omega (arith, c .reported, released-after (o .ledger) bytes t place));
       balance =
-          rw (added-more (λ (turn : Turn). getD (turn .answer .releases) t 0) (o .accepted) (acceptedTurn (o .ledger) bytes), released (o .ledger) bytes t place)
-          (omega (arith, balanced (o .ledger) bytes t place, brought-after (o .ledger) bytes t place));
+          omega (arith, c .balance, released-after (o .ledger) bytes t place, balanced (o .ledger) bytes t place, brought-after (o .ledger) bytes t place);
       deposited =
           rw (records-more o bytes, added-more (λ b. depositOf b t) (recordsIn o) bytes)
           (omega (arith, brought-after (o .ledger) bytes t place));
     }
+
+-- What all types have released grows by x0 at each record.
+pub released-total : (o : Offering) → OneByOne o → totalReleased (o .ledger) ≡ added (λ (turn : Turn). turn .answer .x0) (o .accepted)
+unfolding fresh after newReleased totalReleased x0Of acceptedOf
+released-total _ none-yet = refl
+released-total _ (one-more o bytes room r e) =
+    rw (added-more (λ (turn : Turn). turn .answer .x0) (o .accepted) (acceptedTurn (o .ledger) bytes))
+    (sum-plus (releasedAt (o .ledger)) (release (o .ledger) bytes) 8
+    ∙ ap (λ (n : ℕ). n + sumOf (release (o .ledger) bytes) 8) (released-total o r))

@@ -26,7 +26,7 @@ use Rattle.lines.specs.Listing.{answerText, runText, wholeRun, listingOf}
 use Rattle.promises.specs.Offering.{Offering, offering, recordsIn}
 use Rattle.promises.specs.Exact.{inert, exactStockAt}
 use Rattle.promises.specs.Promises.{NoCarbon, Chosen, CloseTo, sums, DemandThree, SaysOwn, Promises}
-use Rattle.promises.proofs.OneByOne.{OneByOne, one-by-one, n-counts, kind-and-climate, conserved}
+use Rattle.promises.proofs.OneByOne.{OneByOne, one-by-one, n-counts, kind-and-climate, conserved, released-total}
 use Rattle.promises.proofs.Stocks.{close}
 use Rattle.promises.proofs.Release.{nothing-brought}
 use Rattle.promises.proofs.Figures.{published}
@@ -72,7 +72,7 @@ module _ (o : Offering) (r : OneByOne o) where
       record {
         T-none = none;
         R-none = omega (arith, c .balance);
-        G-none = omega (arith, c .balance);
+        G-none = omega (arith, c .reported, c .balance);
       }
 
   stock-close : (d : ℕ → Fraction) → Chosen (o .ledger) d → 1 ≤ o .ledger .n → (t : ℕ) → t < 8
@@ -125,6 +125,7 @@ promises =
       says-own = says-own;
       listing-of-run = λ file room enough. listing-of-run file room (omega arith);
       kept-site = kept-site;
+      released-total = λ offers. released-total (offering offers) (one-by-one offers);
       worked-figures = worked;
       sorted-where = sorted-where;
       sorted-well = sorted-well;

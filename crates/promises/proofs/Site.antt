@@ -12,13 +12,14 @@ use Rattle.ledger.specs.History.{Turn, turns, accepted, recordsOf, inTurn, runO
 use Rattle.ledger.specs.declared.book.Ledger.{Ledger}
 use Rattle.ledger.proofs.History.{acceptedTurn, run-goes-on, run-stops, run-ends}
 use Rattle.image.specs.Image.{imageBytes, imageOf, ledgerOf, Kept}
-use Rattle.image.proofs.Kept.{image-back, fresh-kept, turns-kept}
+use Rattle.image.proofs.Kept.{released-stands, image-back, fresh-kept, turns-kept}
 use Rattle.calls.specs.Calls.{takeHere, runHere, offersOf}
 use Rattle.calls.proofs.Kept.{take-keeps, run-keeps}
 use Rattle.abi.specs.Entries.{freshLeft}
 use Rattle.abi.proofs.Fresh.{fresh-keeps}
 use Rattle.promises.specs.Offering.{offeringTo}
 use Rattle.promises.specs.Site.{Call, takes, runs, imageAfter, offersBy, acceptedBy, imageAfterAll, offersByAll, acceptedByAll, KeptSite}
+use Rattle.promises.proofs.OneByOne.{one-by-one, conserved}
 use Rattle.promises.proofs.Offering.{offering-ends, offering-goes-on, offering-passes-over, offering-join}
 
 -- A run's accepted records are those of its offers, up to and with the one that is refused.
@@ -87,4 +88,5 @@ kept-site buffer e calls =
       image-kept = on .image;
       ledger-kept = ap ledgerOf (on .image) ∙ image-back _ (on .kept);
       answers-kept = on .answers;
+      released-kept = λ t place. rw (on .image, on .answers) (released-stands _ (on .kept) t place ∙ conserved t place _ (one-by-one _) .reported);
     })

@@ -1,6 +1,8 @@
 -- Demand 3: 'Start a fresh ledger and offer any list of records, passing over refused ones.'
 use mathlib.Core.List.{List, map}
 use Prim.Native.Nat.{ℕ}
+use lib.ListN.{getD}
+use Rattle.numbers.specs.Lists.{added}
 use Rattle.ledger.specs.Stock.{fresh}
 use Rattle.ledger.specs.History.{Offer, Turn, turns, ledgerAfter, accepted}
 use Rattle.ledger.specs.declared.book.Ledger.{Ledger}
@@ -20,3 +22,7 @@ offering offers = offeringTo fresh offers
 -- The bytes of the accepted records.
 abbrev pub recordsIn : Offering → List (List ℕ)
 recordsIn o = map (λ turn. turn .bytes) (o .accepted)
+
+-- The carbon that accepted records are answered to release at place t, added.
+abbrev pub releasedBy : List Turn → (t : ℕ) → ℕ
+releasedBy turns t = added (λ (turn : Turn). getD (turn .answer .releases) t 0) turns

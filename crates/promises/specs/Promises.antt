@@ -1,5 +1,5 @@
 -- Demand 3, sentence by sentence, the worked figures, and what the requests of document 02 claim. proofs/Proved.antt proves `Promises`.
--- Place t has type t + 1; T is `broughtAt`, R is `stockAt`, all in milligrams.
+-- Place t has type t + 1; T is `broughtAt`, R is `stockAt`, released so far is `releasedAt`, all in milligrams.
 use mathlib.Core.Path.{_≡_}
 use mathlib.Core.Bool.{true, false}
 use mathlib.Core.Logic.{_↔_}
@@ -14,8 +14,8 @@ use Rattle.decay.specs.Series.{E, StandsFor, exponent}
 use Rattle.waste.specs.Waste.{rateOf}
 use Rattle.record.specs.Fields.{recordBytes, periodOf, kindOf, climateOf, massOf, depositOf}
 use Rattle.stock.specs.Stock.{entryAt}
-use Rattle.ledger.specs.Stock.{fresh, broughtAt, stockAt}
-use Rattle.ledger.specs.Take.{totalStock, takeOf, outputFields}
+use Rattle.ledger.specs.Stock.{fresh, broughtAt, stockAt, releasedAt}
+use Rattle.ledger.specs.Take.{totalStock, totalReleased, takeOf, outputFields}
 use Rattle.ledger.specs.History.{Offer, Turn, recordsOf, runOf, outOf, outcomeOf}
 use Rattle.ledger.specs.declared.book.Ledger.{Ledger}
 use Rattle.ledger.specs.declared.answer.Answer.{Answer}
@@ -25,27 +25,25 @@ use Rattle.image.specs.Image.{imageBytes}
 use Rattle.line.specs.Line.{acceptedText}
 use Rattle.lines.specs.Listing.{answerText, runText, listingOf}
 use Rattle.abi.specs.Entries.{freshLeft}
-use Rattle.promises.specs.Offering.{Offering, offering, recordsIn}
+use Rattle.promises.specs.Offering.{Offering, offering, recordsIn, releasedBy}
 use Rattle.promises.specs.Exact.{inert, exactStockAt, exactFigure}
 use Rattle.promises.specs.WholeRun.{runOver, WholeRun}
 use Rattle.promises.specs.Site.{Call, KeptSite}
 use Rattle.promises.specs.Sorting.{meanShare, Sortable}
 use Rattle.promises.specs.Worked.{rows, holds}
 
--- The carbon that the accepted records are answered to release at place t.
-abbrev pub releasedBy : Offering → (t : ℕ) → ℕ
-releasedBy o t = added (λ (turn : Turn). getD (turn .answer .releases) t 0) (o .accepted)
-
--- At place t, what was released and what is left make up what was brought in, which is the deposits.
+-- At place t, what was released, which is the releases answered, and what is left make up what was brought in, which is the deposits.
 pub record Conserved (o : Offering) (t : ℕ) : Type 0 where
-  pub balance : releasedBy o t + stockAt (o .ledger) t ≡ broughtAt (o .ledger) t
+  -- Document 02, request b: 'The ledger shall hold it per type, [..] equal to the sum of the releases answered since the fresh ledger.'
+  pub reported : releasedAt (o .ledger) t ≡ releasedBy (o .accepted) t
+  pub balance : releasedAt (o .ledger) t + stockAt (o .ledger) t ≡ broughtAt (o .ledger) t
   pub deposited : broughtAt (o .ledger) t ≡ added (λ bytes. depositOf bytes t) (recordsIn o)
 
 -- At place t, T, R and all G are 0.
 pub record NoCarbon (o : Offering) (t : ℕ) : Type 0 where
   pub T-none : broughtAt (o .ledger) t ≡ 0
   pub R-none : stockAt (o .ledger) t ≡ 0
-  pub G-none : releasedBy o t ≡ 0
+  pub G-none : releasedBy (o .accepted) t ≡ 0
 
 -- At each place t whose type decays, d t is a fraction from the table entry up to but not including the next billionth.
 abbrev pub Chosen : Ledger → (d : ℕ → Fraction) → Type 0
@@ -122,6 +120,9 @@ pub record Promises : Type 0 where
   -- A site kept in an image, from a fresh one on: however records and files are handed to it, call after call, it is the offering of
   -- them all, of which demand 3 speaks.
   pub kept-site : (buffer : List ℕ) → length buffer ≡ imageBytes → (calls : List Call) → KeptSite (freshLeft buffer) calls
+  -- Document 02, request b, 'without adding up old files': what all types have released so far is the x0 of the accepted records, which
+  -- stand in their output records, added.
+  pub released-total : (offers : List Offer) → totalReleased (offering offers .ledger) ≡ added (λ (turn : Turn). turn .answer .x0) (offering offers .accepted)
   -- 'P1 to P10 are one table proved with a single statement from the definitions'
   pub worked-figures : allOf (map holds rows) ≡ true
   -- Document 02, request a: a total and samples are accepted exactly where the request allows them, and the masses are then as it

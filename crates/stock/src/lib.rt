@@ -46,25 +46,27 @@ pub fn entries(kind: u8, climate: u8) -> [u32; 8]
     in_climate(&table, climate)
 }
 
-// Tells whether T and R of place t are within what n records can bring.
-fn is_within(n: u64, brought: u64, left: u64, t: usize) -> bool
+// Tells whether T of place t is within what n records can bring, and parted into R and what was released. A sum that 64 bits do
+// not hold comes out below R, so that with R at most T no wrapped sum is T.
+fn is_within(n: u64, brought: u64, left: u64, released: u64, t: usize) -> bool
     requires { ⌜ (n ≤ mostRecords) × (t < 8) ⌝ }
-    ensures { λ r. ⌜ r ≡ withinOf n brought left t ⌝ }
+    ensures { λ r. ⌜ r ≡ withinOf n brought left released t ⌝ }
 {
     let ceiling = n * waste::MASS_LIMIT * waste::carbon(t as u8 + 1) as u64 * 100;
-    (brought <= ceiling) & (left <= brought)
+    let sum = std::num::wrapping_add_u64(released, left);
+    (brought <= ceiling) & (left <= brought) & (sum == brought)
 }
 
-// Tells whether there are no more records than a ledger takes, and every T and R is within what they can bring.
-pub fn are_within(n: u16, brought: [u64; 8], left: [u64; 8]) -> bool
-    ensures { λ r. ⌜ r ≡ (leb n mostRecords && everyOf (λ t. withinOf n (getD brought t 0) (getD left t 0) t) 8) ⌝ }
+// Tells whether there are no more records than a ledger takes, and every T is within what they can bring, and parted.
+pub fn are_within(n: u16, brought: [u64; 8], left: [u64; 8], released: [u64; 8]) -> bool
+    ensures { λ r. ⌜ r ≡ (leb n mostRecords && everyOf (λ t. withinOf n (getD brought t 0) (getD left t 0) (getD released t 0) t) 8) ⌝ }
 {
     if n > RECORDS {
         return false;
     }
     let mut all = true;
     for t in 0..8 {
-        all = all & is_within(n as u64, brought[t], left[t], t);
+        all = all & is_within(n as u64, brought[t], left[t], released[t], t);
     }
     all
 }

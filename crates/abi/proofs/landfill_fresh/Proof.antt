@@ -1,4 +1,4 @@
--- The image of a fresh ledger is 136 zeros.
+-- The image of a fresh ledger is all zero.
 use mathlib.Core.Path.{refl, _∙_}
 use borrow.Author.Needs.{needs}
 use borrow.Author.Tests.{eq-eqb, ne-eqb}

@@ -10,7 +10,7 @@ use Rattle.abi.proofs.landfill_totals.Tie as tie
 returns : tie.Need-returns
 returns c =
     let done : c .totals .result ≡ totalsOf (ledgerOf (c .before .before .before .args .ledger .now)) = rw (c .before .read .ensures) at (c .totals .ensures) in
-    (ap (λ (t : Totals). t .refusal) done, (ap (λ (t : Totals). t .stock) done, ap (λ (t : Totals). t .brought) done))
+    (ap (λ (t : Totals). t .refusal) done, (ap (λ (t : Totals). t .stock) done, (ap (λ (t : Totals). t .brought) done, ap (λ (t : Totals). t .released) done)))
 
 pub landfill-totals-spec : {M : Type 1} → statement M
 landfill-totals-spec =

@@ -14,12 +14,12 @@ use Rattle.image.proofs.read.Tie as tie
 is : (c : tie.Then1) → isImage (c .before .before .before .args .bytes .now) ≡ true
 is c = sym (c .before .is-image .ensures) ∙ c .if1 .taken
 
-size : (c : tie.Then1) → length (c .before .before .before .args .bytes .now) ≡ 136
+size : (c : tie.Then1) → length (c .before .before .before .args .bytes .now) ≡ 200
 size c = image-size (c .before .before .before .args .bytes .now) (is c)
 
 returns : tie.Need-returns
 unfolding ledgerOf saidBy
-returns c = simp (is (c .before .before .before .before .before), c .before .before .before .before .read-u16 .ensures .0, c .before .read-eight .ensures, c .read-eight2 .ensures)
+returns c = simp (is (c .before .before .before .before .before .before), c .before .before .before .before .before .read-u16 .ensures .0, c .before .before .read-eight .ensures, c .before .read-eight2 .ensures, c .read-eight3 .ensures)
 
 returns-2 : tie.Need-returns-2
 unfolding ledgerOf noLedger fresh
@@ -35,4 +35,5 @@ read-spec =
     (λ c. omega (arith, size (c .before .before .before)))
     (λ c κs. omega (arith, size (c .before .before .before)))
     (λ c κs. omega (arith, size (c .before .before .before .before)))
+    (λ c κs. omega (arith, size (c .before .before .before .before .before)))
     returns (λ c κs. search needs) returns-2)

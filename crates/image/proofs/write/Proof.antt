@@ -1,4 +1,4 @@
--- The head and the two rows are the whole image.
+-- The head and the three rows are the whole image.
 use mathlib.Core.Path.{_≡_, refl}
 use Prim.Native.Nat.{_≤_}
 use native.Mathlib.Omega.{arith}
@@ -16,21 +16,22 @@ use Rattle.image.proofs.write.Tie as tie
 returns-2 : tie.Need-returns-2
 unfolding imaged imageOf headed
 returns-2 c =
-    let left = c .before .before .before .before .before .before in
-    let head = left .before .before .before .before in
-    let test = head .before .before .before .before in
+    let second = c .before .before .before .before .before .before in
+    let first = second .before .before .before .before in
+    let head = first .before .before .before .before in
+    let test = head .before .before .before .before .before in
     let s = test .before .before .args in
     let l = s .ledger in
     let out = now (s .out) in
-    let size : length out ≡ 136 = omega (arith, test .if1 .left) in
+    let size : length out ≡ 200 = omega (arith, test .if1 .left) in
     let room : 8 ≤ length out = omega arith in
-    simp (eq-eqb (length out) 136 size)
-    (image-written (headOf (l .n) (l .kind) (l .climate)) (rowOf (λ t. getD (l .brought) t 0) 8) (rowOf (λ t. getD (l .stock) t 0) 8) out
-    refl refl refl size (simp (le-leb 8 (length out) room) at (head .write-head .ensures)) (left .write-eight .ensures) (c .before .before .write-eight2 .ensures))
+    simp (eq-eqb (length out) 200 size)
+    (image-written (headOf (l .n) (l .kind) (l .climate)) (rowOf (λ t. getD (l .brought) t 0) 8) (rowOf (λ t. getD (l .stock) t 0) 8) (rowOf (λ t. getD (l .released) t 0) 8) out
+    refl refl refl refl size (simp (le-leb 8 (length out) room) at (head .write-head .ensures)) (first .write-eight .ensures) (second .write-eight2 .ensures) (c .before .before .write-eight3 .ensures))
 
 pub write-spec : {M : Type 1} → statement M
 unfolding imaged
 write-spec =
     tie.close
-    (tie.spec (λ c. simp (ne-eqb _ _ (c .if1 .taken))) (λ c κs. search needs) (λ c κs. search needs) (λ c κs. search needs)
+    (tie.spec (λ c. simp (ne-eqb _ _ (c .if1 .taken))) (λ c κs. search needs) (λ c κs. search needs) (λ c κs. search needs) (λ c κs. search needs)
     (λ c. search needs) returns-2)

@@ -12,10 +12,10 @@ use Rattle.stock.proofs.are_within.Statement.{statement}
 use Rattle.stock.proofs.are_within.Tie as tie
 
 abbrev Inv-loop : tie.InvT-loop
-Inv-loop n brought left all₀ t₀ all t = (t ≤ 8) × (all ≡ everyOf (λ u. withinOf n (getD brought u 0) (getD left u 0) u) t)
+Inv-loop n brought left released all₀ t₀ all t = (t ≤ 8) × (all ≡ everyOf (λ u. withinOf n (getD brought u 0) (getD left u 0) (getD released u 0) u) t)
 
 abbrev μ-loop : tie.MeasureT-loop
-μ-loop n brought left all₀ t₀ all t = 8 - t
+μ-loop n brought left released all₀ t₀ all t = 8 - t
 
 loop-again : tie.Need-loop-again Inv-loop μ-loop
 loop-again c =
@@ -31,5 +31,5 @@ pub are-within-spec : {M : Type 1} → statement M
 are-within-spec =
     tie.close
     (tie.spec Inv-loop μ-loop (λ c. rw (lt-leb _ _ (c .if1 .taken))) (λ c. (zero-le, refl)) (λ c. search needs) (λ c. c .loop-test .taken)
-    (λ c. search needs) (λ c. c .loop-test .taken) (λ c κs. (c .before .before .if1 .left, c .loop-test .taken)) (λ c. search needs)
+    (λ c. search needs) (λ c. c .loop-test .taken) (λ c. search needs) (λ c. c .loop-test .taken) (λ c κs. (c .before .before .if1 .left, c .loop-test .taken)) (λ c. search needs)
     (λ c. omega arith) loop-again returns-2)

@@ -47,8 +47,8 @@ brought-total s =
 returns : tie.Need-returns
 unfolding acceptedOf after periodOfAll written outputRecord outputFields
 returns c =
-    let s = c .before .before .before .before .before .before .before .before .before .before .before .before .before .before .before .before .before .before in
-    let all = c .before .before .before .before .before .before .before .before .before .before .before .before .before .before .before .decay-all .ensures in
+    let s = c .before .before .before .before .before .before .before .before .before .before .before .before .before .before .before .before .before .before .before in
+    let all = c .before .before .before .before .before .before .before .before .before .before .before .before .before .before .before .before .decay-all .ensures in
     let kind = c .before .before .before .before .before .before .before .before .before .before .kind .ensures in
     let climate = c .before .before .before .before .before .before .before .before .before .climate .ensures in (
       rw (kind, climate, all),
@@ -59,7 +59,7 @@ returns c =
             c .before .before .before .before .before .before .bound .ensures,
             c .before .before .before .before .before .before .before .margins .ensures,
             c .before .before .before .before .before .before .before .before .figure .ensures,
-            c .before .before .before .before .before .before .before .before .before .before .before .before .before .before .of .ensures,
+            c .before .before .before .before .before .before .before .before .before .before .before .before .before .before .before .of .ensures,
             kind,
             climate,
             all,
@@ -72,6 +72,6 @@ returns c =
 pub enter-spec : {M : Type 1} → statement M
 enter-spec =
     tie.close
-    (tie.spec decay-all-requires (λ c κs. search needs) (λ c. omega (arith, taken (c .before .before .before .before .before .before .before) .more)) (λ c κs. search needs) (λ c κs. search needs)
+    (tie.spec decay-all-requires (λ c κs. search needs) (λ c. omega (arith, taken (c .before .before .before .before .before .before .before .before) .more)) (λ c κs. search needs) (λ c κs. search needs)
     (λ c κs. search needs) (λ c κs. search needs) (λ c κs. search needs) (λ c κs. search needs)
     (λ c κs. search needs) (λ c κs. search needs) (λ c. search needs) returns)

@@ -11,4 +11,4 @@ unfolding withinAt
 is-sound-spec =
     tie.close
     (tie.spec (λ c κs. search needs) (λ c κs. search needs)
-    (λ c. rw (c .are-within .ensures, c .before .is-coded .ensures) (sym (sound-tests (c .before .before .before .before .args .self)))))
+    (λ c. rw (c .are-within .ensures, c .before .is-coded .ensures) (sym (sound-tests (c .before .before .before .before .before .args .self)))))

@@ -1,4 +1,4 @@
--- A run of one record is the step; its releases are worked out from what is left, and its numbers are read back from its output.
+-- A run of one record is the step; its releases are what was released since, and its numbers are read back from its output.
 use mathlib.Core.Path.{_≡_, sym, ap, _∙_}
 use mathlib.Core.List.{_++_}
 use Prim.Native.Nat.{_≤_}
@@ -12,6 +12,7 @@ use Rattle.ledger.specs.Refusal.{refusalOf}
 use Rattle.ledger.specs.Take.{acceptedOf, outputRecord, outputFields}
 use Rattle.ledger.specs.declared.answer.Outcome.{Outcome}
 use Rattle.ledger.proofs.Accepted.{Accepted, accepted, has-room, room-alike}
+use Rattle.ledger.proofs.Step.{released-after, released-between}
 use Rattle.ledger.proofs.Take.{taken}
 use Rattle.ledger.proofs.Fits.{output-says}
 use Rattle.ledger.proofs.OneRecord.{no-record, refused-by, one-refusal, one-ledger, one-written, one-output}
@@ -62,12 +63,13 @@ returns-2 c =
     let r = refused-by (a .self) (a .bytes .now) (now (a .out)) (ran .run .result .refusal) (sym (found ran)) (c .before .if2 .taken) in
     (c .refused2 .ensures ∙ r .0, ran .run .ensures .1 ∙ one-written (a .self) (a .bytes .now) (now (a .out)) (ran .before .before .if1 .left))
 
-released-requires : tie.Need-released-requires
-unfolding acceptedOf after
-released-requires c κs =
+-- what was released so far only grows
+released-since-requires : tie.Need-released-since-requires
+unfolding acceptedOf
+released-since-requires c κs t place =
     let e = c .before .before in
     let a = e .before .before .before .before .before .before .before .before .before .args in
-    (room-alike (a .self) (a .bytes .now) 48 (length (now (a .out))) (omega arith) (room-left e) ∙ none e, rw (ledger-is e))
+    rw (ledger-is e) (omega (arith, released-after (a .self) (a .bytes .now) t place))
 
 returns-3 : tie.Need-returns-3
 unfolding acceptedOf outputFields
@@ -75,7 +77,7 @@ returns-3 c =
     let e = c .before .before .before .before .before .before .before .before .before in
     let a = e .before .before .before .before .before .before .before .before .before .args in
     let says = said e in (
-      rw (taken (a .self) (a .bytes .now) (length (now (a .out))) (none e), ledger-is e, c .before .before .before .before .before .before .released .ensures)
+      rw (taken (a .self) (a .bytes .now) (length (now (a .out))) (none e), c .before .before .before .before .before .before .released-since .ensures, ledger-is e, released-between (a .self) (a .bytes .now))
           (rw (c .read-u643 .ensures, c .before .before .read-u642 .ensures, c .before .before .before .before .read-u64 .ensures, says .x0, says .figure, says .bound)),
       e .before .before .before .before .run .ensures .1 ∙ one-written (a .self) (a .bytes .now) (now (a .out)) (e .before .before .before .before .before .before .if1 .left),
     )
@@ -83,7 +85,7 @@ returns-3 c =
 pub take-spec : {M : Type 1} → statement M
 take-spec =
     tie.close
-    (tie.spec (λ c κs. search needs) returns (λ c κs. search needs) (λ c κs. search needs) (λ c. search needs) returns-2 released-requires
+    (tie.spec (λ c κs. search needs) returns (λ c κs. search needs) (λ c κs. search needs) (λ c. search needs) returns-2 released-since-requires
     (λ c κs. omega (arith, room-left (c .before .before .before .before)))
     (λ c κs. omega (arith, room-left (c .before .before .before .before .before .before)))
     (λ c κs. omega (arith, room-left (c .before .before .before .before .before .before .before .before)))
