@@ -8,8 +8,8 @@ import cases
 import reference
 from cases import case
 from faults import FAULTS, Offer, applied, of_field
-from histories import KINDS_AND_CLIMATES, PLACES, PLAIN, ceilings, damaged, greatest_record, only, random_file
-from histories import random_ledger, random_record, replaced
+from histories import KINDS_AND_CLIMATES, PLACES, PLAIN, balanced, ceilings, damaged, greatest_record, only
+from histories import random_file, random_ledger, random_record, replaced
 from reference import BYTES, FRESH, MASS_LIMIT, RECORDS, Ledger, little, write_record
 
 
@@ -106,24 +106,21 @@ def steps_at_limits(rng):
         for n in (1, 1199):
             offers += [(Ledger(n, kind, climate, ceilings(n), ceilings(n)), greatest_record(n, kind, climate))]
     for ledger, record in offers:
-        yield step_case(ledger, write_record(record), expect=0)
+        yield step_case(balanced(ledger), write_record(record), expect=0)
     for room in (49, 96, 300):
         yield offer_case(fair_offer(rng)._replace(room=room), 0)
 
 
 def steps_at_random(rng):
-    """Accepted ones, ones with a byte changed in image or record, and arbitrary ledgers; beside them bytes that are no image."""
+    """Accepted ones, ones with a byte changed, and arbitrary ledgers, all balanced; beside them bytes that are no image."""
     for kind, climate in KINDS_AND_CLIMATES * 10:
         ledger = random_ledger(rng, kind, climate)
         data = write_record(random_record(rng, ledger.n, kind, climate))
         yield step_case(ledger, data, expect=0)
         yield step_case(ledger, data, expect=3, zeros=rng.randbytes(4))
     for _ in range(60):
-        offer = fair_offer(rng)
-        data = bytearray(cases.image(offer.ledger) + offer.data())
-        data[rng.randrange(len(data))] = rng.randrange(256)
-        room = rng.choice((47, 48, 48, 48, 49))
-        yield step_case(cases.read_image(data), bytes(data[cases.IMAGE :]), room)
+        ledger, data = byte_changed(rng, fair_offer(rng), [*range(136), *range(200, 248)])
+        yield step_case(balanced(ledger), data, rng.choice((47, 48, 48, 48, 49)))
     for _ in range(60):
         ledger = arbitrary_ledger(rng)
         follower = random_record(rng, ledger.n % 1200, max(ledger.kind, 1), max(ledger.climate, 1))
@@ -132,16 +129,23 @@ def steps_at_random(rng):
         yield step_case(ledger, data, expect=3, zeros=rng.randbytes(4))
 
 
+def byte_changed(rng, offer, places):
+    """The ledger and the record's bytes with a byte changed at one of these places of image and record."""
+    data = bytearray(cases.image(offer.ledger) + offer.data())
+    data[rng.choice(places)] = rng.randrange(256)
+    return cases.read_image(data), bytes(data[cases.IMAGE :])
+
+
 def arbitrary_ledger(rng):
-    """The ledger of any bytes, or one whose head is near its codes."""
+    """The ledger of any bytes, or one whose head is near its codes, balanced."""
     head = little([(rng.choice((0, 1, 2, 1199, 1200, 1201)), 2), (rng.randint(0, 3), 1), (rng.randint(0, 5), 1)])
     carbon = rng.choice((bytes(128), bytes(64) + rng.randbytes(64), rng.randbytes(128)))
-    return cases.read_image(rng.choice((rng.randbytes(8), head + bytes(4))) + carbon)
+    return balanced(cases.read_image(rng.choice((rng.randbytes(8), head + bytes(4))) + carbon + bytes(64)))
 
 
 def runs_by_rule(rng):
     """No bytes, room that ends, bytes left over, each fault of a record, and the last records that a ledger takes."""
-    unsound = Ledger(1, 1, 1, (0,) * 8, only(1, 1))
+    unsound = balanced(Ledger(1, 1, 1, (0,) * 8, only(1, 1)))
     for ledger in (FRESH, random_ledger(rng, 1, 2), unsound, Ledger(65535, 255, 255, ceilings(9), ceilings(9))):
         yield run_case(ledger, b"", 0, (0, 0))
         yield run_case(ledger, b"", 50, (0, 0))

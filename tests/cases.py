@@ -11,22 +11,22 @@ import reference
 from reference import Ledger, number
 
 LONGEST = 65536  # bytes of a payload, and of an output buffer
-IMAGE = 136  # bytes of a ledger image
+IMAGE = 200  # bytes of a ledger image
 
 
 NO_LEDGER = Ledger(65535, 0, 0)  # what bytes that are no image count as: unsound, with too many records
 
 
 def image(ledger, zeros=bytes(4)):
-    """The 136 bytes of a ledger; with other bytes than zeros between climate and T they are no image."""
+    """The 200 bytes of a ledger; with other bytes than zeros between climate and T they are no image."""
     head = reference.little([(ledger.n, 2), (ledger.kind, 1), (ledger.climate, 1)])
-    return head + zeros + reference.little((value, 8) for value in ledger.T + ledger.R)
+    return head + zeros + reference.little((value, 8) for value in ledger.T + ledger.R + ledger.released)
 
 
 def read_image(data):
-    """The ledger that 136 bytes say, whatever stands between climate and T."""
-    carbon = [number(data, at, 8) for at in range(8, IMAGE, 8)]
-    return Ledger(number(data, 0, 2), data[2], data[3], tuple(carbon[:8]), tuple(carbon[8:]))
+    """The ledger that 200 bytes say, whatever stands between climate and T."""
+    carbon = (tuple(number(data, at + 8 * j, 8) for j in range(8)) for at in (8, 72, 136))
+    return Ledger(number(data, 0, 2), data[2], data[3], *carbon)
 
 
 def ledger_of(data):
@@ -44,15 +44,15 @@ def decay_line(payload):
 
 
 def step_line(payload):
-    lent = b"\xa5" * number(payload, 136, 2)
-    answer = reference.step(ledger_of(payload), payload[138:], lent)
+    lent = b"\xa5" * number(payload, 200, 2)
+    answer = reference.step(ledger_of(payload), payload[202:], lent)
     numbers = [answer.refusal, *fields(answer.ledger), *answer.releases, answer.x0, answer.figure, answer.bound]
     return spaced(numbers) + " " + hexed(answer.output)
 
 
 def run_line(payload):
-    lent = b"\xa5" * min(number(payload, 136, 4), LONGEST)
-    answer = reference.run(ledger_of(payload), payload[140:], lent)
+    lent = b"\xa5" * min(number(payload, 200, 4), LONGEST)
+    answer = reference.run(ledger_of(payload), payload[204:], lent)
     return spaced([answer.accepted, answer.refusal, *fields(answer.ledger)]) + " " + hexed(answer.output)
 
 
@@ -75,7 +75,7 @@ def masses_line(payload):
 
 
 def fields(ledger):
-    return [ledger.n, ledger.kind, ledger.climate, *ledger.T, *ledger.R]
+    return [ledger.n, ledger.kind, ledger.climate, *ledger.T, *ledger.R, *ledger.released]
 
 
 def spaced(numbers):
@@ -94,8 +94,8 @@ class Kind(NamedTuple):
 
 KINDS = {
     "d": Kind(decay_line, 3, 3),
-    "s": Kind(step_line, 138, LONGEST),
-    "r": Kind(run_line, 140, LONGEST),
+    "s": Kind(step_line, 202, LONGEST),
+    "r": Kind(run_line, 204, LONGEST),
     "l": Kind(listing_line, 0, LONGEST),
     "c": Kind(cell_line, 9, 9),
     "p": Kind(point_line, 16, 16),

@@ -2,7 +2,7 @@
 from collections.abc import Callable
 from typing import NamedTuple
 
-from histories import PLACES, ceilings, replaced
+from histories import PLACES, balanced, ceilings, replaced
 from reference import BYTES, FRESH, MASS_LIMIT, RECORDS, Ledger, Record, little, write_record
 
 LAST = 2**64 - 1
@@ -37,8 +37,8 @@ def not_fresh(**fields):
 
 
 def in_ledger(field, **values):
-    """An unsound ledger; a value that is a function is worked out from the ledger."""
-    return Fault(3, field, lambda o: o._replace(ledger=changed(o.ledger, values, o.ledger)))
+    """An unsound ledger, balanced; a value that is a function is worked out from the ledger."""
+    return Fault(3, field, lambda o: o._replace(ledger=balanced(changed(o.ledger, values, o.ledger))))
 
 
 def in_record(number, field, *values):

@@ -1,5 +1,5 @@
 """Records, files and ledgers to offer: at random, and at the limits of document 01."""
-from reference import BYTES, CLIMATES, DOC, FRESH, KINDS, MASS_LIMIT, Ledger, Record, take, write_record
+from reference import BYTES, CLIMATES, DOC, FRESH, KINDS, MASS_LIMIT, NONE, Ledger, Record, take, write_record
 
 PLACES = range(8)
 KINDS_AND_CLIMATES = [(kind, climate) for kind in KINDS for climate in CLIMATES]
@@ -19,6 +19,12 @@ def only(place, kg):
 def ceilings(n):
     """The most that T may be after n records, for each type."""
     return tuple(n * MASS_LIMIT * doc * 100 for doc in DOC)
+
+
+def balanced(ledger):
+    """The ledger with all released that is not left; where R is over T it adds up only modulo 2^64."""
+    released = tuple((t - r) % 2**64 for t, r in zip(ledger.T, ledger.R))
+    return ledger._replace(released=released if ledger.n > 0 else NONE)
 
 
 def greatest_record(n, kind, climate):
@@ -71,4 +77,4 @@ def random_ledger(rng, kind, climate, n=None):
         return lived(rng, kind, climate, rng.randint(1, 20))
     n = n or rng.choice((1, 2, 255, 256, rng.randint(1, 1180)))
     T = tuple(rng.randint(0, top) >> rng.choice((0, 0, 10, 40, 64)) for top in ceilings(n))
-    return Ledger(n, kind, climate, T, tuple(rng.choice((0, t, rng.randint(0, t))) for t in T))
+    return balanced(Ledger(n, kind, climate, T, tuple(rng.choice((0, t, rng.randint(0, t))) for t in T)))

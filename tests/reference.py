@@ -1,4 +1,4 @@
-"""Document 01 and request a of document 02 worked out a second time, in exact numbers, to run the Rattle code against.
+"""Document 01 and requests a and b of document 02 worked out a second time, in exact numbers, to run the Rattle code against.
 
 One function for each rule, in the documents' order and with their letters. Everything is a value: an output
 buffer goes in as bytes and comes back as bytes. Type j stands at place j - 1 of every list of eight.
@@ -98,6 +98,7 @@ class Ledger(NamedTuple):
     climate: int = 0
     T: tuple = NONE  # mg brought in, for each type
     R: tuple = NONE  # mg left, for each type
+    released: tuple = NONE  # mg released so far, for each type
 
 
 FRESH = Ledger()
@@ -126,7 +127,8 @@ def take(ledger, record):
     H = [r + deposit for r, deposit in zip(ledger.R, brought)]
     R = tuple(h * d // 10**9 for h, d in zip(H, D))
     G = tuple(h - r for h, r in zip(H, R))
-    return Ledger(ledger.n + 1, record.kind, record.climate, T, R), G
+    released = tuple(so_far + g for so_far, g in zip(ledger.released, G))
+    return Ledger(ledger.n + 1, record.kind, record.climate, T, R, released), G
 
 
 def figure_of(record, x0):
@@ -143,14 +145,15 @@ def bound_of(record, after):
 
 
 def totals(ledger):
-    """Total R and total T."""
-    return sum(ledger.R), sum(ledger.T)
+    """Total R, total T and all that was released so far."""
+    return sum(ledger.R), sum(ledger.T), sum(ledger.released)
 
 
 def output_record(record, x0, figure, bound, after):
     """The output record of 48 bytes."""
     head = [(record.period, 2), (record.kind, 1), (record.climate, 1), (0, 4)]
-    return little(head + [(value, 8) for value in (x0, figure, bound, *totals(after))])
+    left, brought, _ = totals(after)
+    return little(head + [(value, 8) for value in (x0, figure, bound, left, brought)])
 
 
 def step(ledger, data, output):
@@ -202,6 +205,7 @@ def sound(ledger):
         and ledger.climate in CLIMATES
         and all(t <= ledger.n * MASS_LIMIT * doc * 100 for t, doc in zip(ledger.T, DOC))
         and all(r <= t for r, t in zip(ledger.R, ledger.T))
+        and all(released + r == t for released, r, t in zip(ledger.released, ledger.R, ledger.T))
     )
 
 
@@ -285,7 +289,7 @@ def point(figure, bound):
 
 def line(period, answer):
     """The line of an accepted record."""
-    left, _ = totals(answer.ledger)
+    left, _, _ = totals(answer.ledger)
     return f"{period} {answer.x0} {answer.figure} {answer.bound} {left}\n"
 
 

@@ -109,14 +109,14 @@ def bound(record, n, T):
 
 
 def step(ledger, record):
-    """T and R after an accepted record, the releases, x0, figure and bound."""
+    """T, R and what is gone of T after an accepted record, the releases, x0, figure and bound."""
     brought = carbon(record.masses)
     T = tuple(map(sum, zip(ledger.T, brought)))
     H = tuple(map(sum, zip(ledger.R, brought)))
     kept = [Fraction(entry(record.kind, k) if k else 0, 10**9) for k in rates(record.climate)]
     R = tuple(floor(h * part) for h, part in zip(H, kept))
-    G = tuple(h - r for h, r in zip(H, R))
-    return T, R, G, sum(G), figure(record, sum(G)), bound(record, ledger.n + 1, T)
+    gone, G = (tuple(whole - r for whole, r in zip(wholes, R)) for wholes in (T, H))
+    return T, R, gone, G, sum(G), figure(record, sum(G)), bound(record, ledger.n + 1, T)
 
 
 def mean_shares(W, samples):

@@ -1,6 +1,8 @@
 #!/usr/bin/env python3
 """Holds the reference to all that document 01 prints, to the sources' own tables and equations, and to demand 3.
 
+Of document 02 it holds masses from samples, and the carbon released so far.
+
 Prints ok and exits 0, or stops at the first check that fails.
 """
 import os
@@ -17,7 +19,7 @@ import reference
 import retold
 import samples_cases
 from faults import applied
-from histories import KINDS_AND_CLIMATES, PLAIN, damaged, only, random_record, replaced
+from histories import KINDS_AND_CLIMATES, PLAIN, balanced, damaged, only, random_file, random_record, replaced
 from reference import FRESH, Ledger, Record, decay, deposits, rates, read_record, step, write_record
 from samples_cases import fair_sorting
 
@@ -45,7 +47,7 @@ def constants():
     limits = reference.RECORDS, reference.BYTES, reference.MASS_LIMIT
     check("limits", limits, (1200, 48, 1_000_000_000))
     check("codes", (reference.KINDS, reference.CLIMATES, reference.CLASSES), ((1, 2), (1, 2, 3, 4), (1, 2, 3, 4)))
-    check("a fresh ledger", FRESH, (0, 0, 0, NOTHING, NOTHING))
+    check("a fresh ledger", FRESH, (0, 0, 0, NOTHING, NOTHING, NOTHING))
 
 
 def tables():
@@ -96,15 +98,42 @@ def refused():
         check(f"{n} records", offered(sound, period=(n + 1) % 2**16).refusal, number)
         for place in range(8):
             more = replaced(full, place, full[place] + 1)
-            check("T over its ceiling", offered(sound._replace(T=more), period=2).refusal, 3)
-            check("R over T", offered(sound._replace(R=more), period=2).refusal, 3)
+            check("T over its ceiling", offered(balanced(sound._replace(T=more)), period=2).refusal, 3)
+            check("R over T", offered(balanced(sound._replace(R=more)), period=2).refusal, 3)
     one = FRESH._replace(n=1, kind=1, climate=4)
     for code in range(256):
         check(f"kind {code} of a ledger", offered(one._replace(kind=code), period=2).refusal, {1: 0, 2: 7}.get(code, 3))
         number = 0 if code == 4 else 7 if 1 <= code <= 3 else 3
         check(f"climate {code} of a ledger", offered(one._replace(climate=code), period=2).refusal, number)
-    for field in ({"kind": 1}, {"climate": 1}, {"T": only(1, 1)}, {"R": only(8, 1)}):
+    for field in ({"kind": 1}, {"climate": 1}, {"T": only(1, 1)}, {"R": only(8, 1)}, {"released": only(6, 1)}):
         check(f"a fresh ledger with {field}", offered(FRESH._replace(**field)).refusal, 3)
+
+
+def added_up():
+    """Released and R add up to T, or do not, in one type of eight; the sum is the true one."""
+    last = 2**64 - 1
+    for T, R, released, number in [
+        (0, 0, 0, 0),
+        (9, 5, 4, 0),
+        (9, 4, 5, 0),
+        (9, 9, 0, 0),
+        (9, 0, 9, 0),
+        (9, 5, 3, 3),
+        (9, 5, 5, 3),
+        (9, 5, 0, 3),
+        (9, 0, 0, 3),
+        (0, 0, 1, 3),
+        (9, 10, last, 3),
+        (9, last, 10, 3),
+        (0, 2**63, 2**63, 3),
+        (last - 1, last, last, 3),
+    ]:
+        for place in range(1, 9):
+            ledger = Ledger(1, 1, 4, *(only(place, carbon) for carbon in (T, R, released)))
+            wanted = 3 if place == 6 and T > 0 else number
+            check(f"{ledger}", offered(ledger, period=2).refusal, wanted)
+    across = Ledger(1, 1, 4, (9,) * 5 + (0, 9, 9), (4,) * 5 + (0, 4, 4), (6, 4, 5, 5, 5, 0, 5, 5))
+    check("added up only over all types", offered(across, period=2).refusal, 3)
 
 
 def worked_figures():
@@ -182,9 +211,9 @@ def fields_of(data):
 def told_again(ledger, data, answer):
     """An accepted record's step and its output record, each told a second time."""
     record = fields_of(data)
-    n, kind, climate, T, R = answer.ledger
+    n, kind, climate, T, R, released = answer.ledger
     check("ledger", (n, kind, climate), (ledger.n + 1, record.kind, record.climate))
-    check("step", (T, R, *answer[2:6]), retold.step(ledger, record))
+    check("step", (T, R, released, *answer[2:6]), retold.step(ledger, record))
     numbers = *answer[3:6], sum(R), sum(T)
     check("output record", answer.output, struct.pack("<HBBI5Q", record.period, kind, climate, 0, *numbers))
     return record
@@ -225,11 +254,23 @@ def demand_3(rng, kind, climate, part):
         released = [earlier + release for earlier, release in zip(released, answer.releases)]
         stock = [exact_stock(deposit, fraction) for deposit, fraction in zip(brought, d)]
         check("T", ledger.T, tuple(map(sum, brought)))
+        check("released", ledger.released, tuple(released))
         check("conservation", tuple(map(sum, zip(released, left))), ledger.T)
         for R, T, exact in zip(left, ledger.T, stock):
             check("stock", R <= exact < R + n + Fraction(n * T, 10**9), True)
         release = sum(before) + sum(deposits(record)) - sum(stock)
         check("figure", abs(answer.figure - retold.exact_figure(record, release)) < answer.bound, True)
+
+
+def reread(rng, kind, climate):
+    """A run, also one that stops, leaves released what x0 of its output records comes to, and type 6 nothing."""
+    ledger, output, file = FRESH, b"", random_file(rng, 0, kind, climate, 20)
+    for part in (file[:240], damaged(rng, file[240:])):
+        answer = reference.run(ledger, part, bytes(len(part) + 48))
+        ledger, output = answer.ledger, output + answer.output[: 48 * answer.accepted]
+    x0 = sum(numbers[4] for numbers in struct.iter_unpack("<HBBI5Q", output))
+    check("totals", reference.totals(ledger), (sum(ledger.R), sum(ledger.T), x0))
+    check("inert", (ledger.T[5], ledger.R[5], ledger.released[5]), (0, 0, 0))
 
 
 def packed(*fractions):
@@ -286,7 +327,7 @@ def sampled(sorting):
 
 
 def cases_page():
-    """The examples of docs/CASES.md: a case as hex, where 00*136 is a byte repeated, and its line below."""
+    """The examples of docs/CASES.md: a case as hex, where 00*200 is a byte repeated, and its line below."""
     with open(os.path.join(HERE, "..", "docs", "CASES.md"), encoding="utf-8") as page:
         block = page.read().split("## Examples")[1].split("```")[1].split("\n")[1:-1]
     for example, wanted in zip(block[::3], block[1::3], strict=True):
@@ -300,6 +341,7 @@ def main():
     worked_figures()
     allowed()
     refused()
+    added_up()
     run_only()
     listing_sample()
     door()
@@ -311,6 +353,8 @@ def main():
     for kind, climate in KINDS_AND_CLIMATES:
         for part in (Fraction(0), Fraction(rng.randint(1, 98), 99), 1 - Fraction(1, 10**9), 1 - Fraction(1, 10**40)):
             demand_3(rng, kind, climate, part)
+    for kind, climate in KINDS_AND_CLIMATES * 4:
+        reread(rng, kind, climate)
     samples_at_fault(rng)
     for kind, Z in [(2, 3)] * 300 + [(1, rng.randint(12, 40)) for _ in range(50)] + [(1, 400)] * 3:
         sampled(fair_sorting(rng, kind, Z))
