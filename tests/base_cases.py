@@ -35,10 +35,10 @@ def offer_case(offer, expect):
     return step_case(offer.ledger, offer.data(), offer.room, expect)
 
 
-def fair_offer(rng):
+def fair_offer(rng, ledger_of=random_ledger):
     """An offer that is accepted, with n above 0."""
     kind, climate = rng.choice(KINDS_AND_CLIMATES)
-    ledger = random_ledger(rng, kind, climate)
+    ledger = ledger_of(rng, kind, climate)
     return Offer(ledger, random_record(rng, ledger.n, kind, climate))
 
 
@@ -112,7 +112,7 @@ def steps_at_limits(rng):
 
 
 def steps_at_random(rng):
-    """Accepted ones, ones with a byte changed, and arbitrary ledgers, all balanced; beside them bytes that are no image."""
+    """Accepted ones, ones with a byte changed, arbitrary ledgers, all balanced; beside them bytes that are no image."""
     for kind, climate in KINDS_AND_CLIMATES * 10:
         ledger = random_ledger(rng, kind, climate)
         data = write_record(random_record(rng, ledger.n, kind, climate))
@@ -123,8 +123,8 @@ def steps_at_random(rng):
         yield step_case(balanced(ledger), data, rng.choice((47, 48, 48, 48, 49)))
     for _ in range(60):
         ledger = arbitrary_ledger(rng)
-        follower = random_record(rng, ledger.n % 1200, max(ledger.kind, 1), max(ledger.climate, 1))
-        data = rng.choice((rng.randbytes(BYTES), write_record(follower)))
+        follower = write_record(follower_of(rng, ledger))
+        data = rng.choice((rng.randbytes(BYTES), follower))
         yield step_case(ledger, data)
         yield step_case(ledger, data, expect=3, zeros=rng.randbytes(4))
 
@@ -141,6 +141,11 @@ def arbitrary_ledger(rng):
     head = little([(rng.choice((0, 1, 2, 1199, 1200, 1201)), 2), (rng.randint(0, 3), 1), (rng.randint(0, 5), 1)])
     carbon = rng.choice((bytes(128), bytes(64) + rng.randbytes(64), rng.randbytes(128)))
     return balanced(cases.read_image(rng.choice((rng.randbytes(8), head + bytes(4))) + carbon + bytes(64)))
+
+
+def follower_of(rng, ledger):
+    """A record that an arbitrary ledger may accept as its next."""
+    return random_record(rng, ledger.n % 1200, max(ledger.kind, 1), max(ledger.climate, 1))
 
 
 def runs_by_rule(rng):

@@ -1,7 +1,7 @@
 #!/usr/bin/env python3
 """Writes cases for the program `cases` (docs/CASES.md), and the lines that the reference gives for them.
 
-  make_cases.py [--group base|door|samples|all] [--seed N] [--out DIR]
+  make_cases.py [--group base|door|samples|released|all] [--seed N] [--out DIR]
   make_cases.py --store
   make_cases.py --check
 
@@ -21,10 +21,12 @@ from base_cases import base
 from cases import case
 from door_cases import door
 from reference import listing, little
+from released_cases import released
 from samples_cases import samples
 
 ROOT = os.path.join(os.path.dirname(os.path.abspath(__file__)), "..")
-GROUPS = {"base": [base], "door": [door], "samples": [samples], "all": [base, door, samples]}
+GROUPS = {"base": [base], "door": [door], "samples": [samples], "released": [released]}
+GROUPS["all"] = [cases_of for group in GROUPS.values() for cases_of in group]
 FIRST = case("d", b"\1\1\0")
 STOPS = {
     "header": FIRST + FIRST[:4],
@@ -32,6 +34,10 @@ STOPS = {
     "long": FIRST + b"l" + little([(cases.LONGEST + 1, 4)]),
     "short": FIRST + case("d", b"\1\1") + FIRST,
     "samples": FIRST + case("m", bytes(8)) + FIRST,
+    "step": FIRST + case("s", bytes(cases.IMAGE + 1)) + FIRST,
+    "run": FIRST + case("r", bytes(cases.IMAGE + 3)) + FIRST,
+    "step-136": FIRST + case("s", bytes(136 + 2)) + FIRST,
+    "run-136": FIRST + case("r", bytes(136 + 4)) + FIRST,
     "payload": FIRST + FIRST[:-1],
 }
 

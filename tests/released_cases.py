@@ -1,0 +1,181 @@
+"""The cases of the carbon released so far, each built for the answer that document 02 gives it.
+
+A case built for a refusal is an error here where the reference answers another.
+"""
+import faults
+import reference
+from base_cases import arbitrary_ledger, byte_changed, fair_offer, follower_of, offer_case, run_case, step_case
+from faults import LAST, Fault, Offer, applied, not_fresh
+from histories import KINDS_AND_CLIMATES, PLACES, PLAIN, balanced, ceilings, damaged, lived, only, random_file
+from histories import random_record, replaced
+from reference import BYTES, FRESH, MASS_LIMIT, NONE, RECORDS, Ledger, little, write_record
+
+
+def half_spent(rng, kind, climate):
+    """A ledger in the middle of its history: of every type but the sixth some carbon is left and some released."""
+    n = rng.choice((1, 2, rng.randint(3, RECORDS - 10)))
+    T = tuple(rng.randint(2, top) if top else 0 for top in ceilings(n))
+    return balanced(Ledger(n, kind, climate, T, tuple(rng.randint(1, t - 1) if t else 0 for t in T)))
+
+
+def spent_offer(rng):
+    """An offer to such a ledger that is accepted."""
+    return fair_offer(rng, half_spent)
+
+
+def in_carbon(change):
+    """Another T, R and released, worked out from these."""
+    return Fault(3, "released", lambda o: o._replace(ledger=Ledger(*o.ledger[:3], *change(*o.ledger[3:]))))
+
+
+def off_by(shifts):
+    """Released with a shift for some types, by their places, modulo 2^64."""
+    return in_carbon(lambda T, R, released: (T, R, shifted(released, shifts)))
+
+
+def shifted(eight, shifts):
+    return tuple((value + shifts.get(j, 0)) % 2**64 for j, value in enumerate(eight))
+
+
+def for_one(j, T, R, released):
+    """The three numbers of one type."""
+    return in_carbon(lambda *eights: (replaced(eight, j, value) for eight, value in zip(eights, (T, R, released))))
+
+
+# Changes to a half spent ledger, after which released and R do not add up to T, and nothing else is wrong.
+NOT_ADDED_UP = [
+    *(off_by({j: shift}) for j in PLACES for shift in (1, -1, 2**32, 2**63)),
+    *(off_by({j: 1, (j + 1) % 8: -1}) for j in PLACES),
+    in_carbon(lambda T, R, released: (T, R, NONE)),
+    in_carbon(lambda T, R, released: (T, R, T)),
+    in_carbon(lambda T, R, released: (T, R, R)),
+    in_carbon(lambda T, R, released: (T, R, released[1:] + released[:1])),
+]
+
+# R is over T, or T over its ceiling; most add up modulo 2^64.
+OVER = [
+    in_carbon(lambda T, R, released: (R, T, released)),
+    *(for_one(j, T, R, T - R + 2**64) for j in PLACES for T, R in ((0, 1), (0, 2**63), (0, LAST), (5, 6), (5, LAST))),
+    *(for_one(j, LAST - 1, LAST, LAST) for j in PLACES),
+    *(for_one(j, LAST, LAST, carbon) for j in PLACES for carbon in (0, 1, LAST)),
+]
+
+# n is 0; most add up, in truth or modulo 2^64.
+NOT_FRESH = [
+    *(not_fresh(released=replaced(NONE, j, carbon)) for j in PLACES for carbon in (1, 2**63, LAST)),
+    *(not_fresh(T=replaced(NONE, j, 1), released=replaced(NONE, j, 1)) for j in PLACES),
+    *(not_fresh(R=replaced(NONE, j, 1), released=replaced(NONE, j, LAST)) for j in PLACES),
+]
+
+
+def at_fault(rng):
+    """Each fault alone, and one of them beside each other fault, for the order of refusals."""
+    for fault in NOT_ADDED_UP + OVER + NOT_FRESH:
+        yield offer_case(applied(spent_offer(rng), [fault]), 3)
+    for fault in faults.FAULTS:
+        if fault.field not in ("T", "R"):
+            pair = fault, rng.choice(NOT_ADDED_UP)
+            yield offer_case(applied(spent_offer(rng), pair), min(fault.number, 3))
+
+
+def sound(rng):
+    """R and released exchanged, one type's and all; all left, all released, the most that is allowed; nothing."""
+    for kind, climate in KINDS_AND_CLIMATES:
+        ledger = half_spent(rng, kind, climate)
+        n, *_, T, R, released = ledger
+        ledgers = [ledger._replace(R=released, released=R), ledger._replace(R=T, released=NONE)]
+        ledgers += [ledger._replace(R=NONE, released=T), Ledger(n, kind, climate)]
+        ledgers += [ledger._replace(T=ceilings(n), R=NONE, released=ceilings(n))]
+        j = rng.choice(PLACES)
+        ledgers += [ledger._replace(R=replaced(R, j, released[j]), released=replaced(released, j, R[j]))]
+        for each in ledgers:
+            yield step_case(each, write_record(random_record(rng, n, kind, climate)), expect=0)
+
+
+def in_parts(rng):
+    """A history record by record, beside each the same damaged; then in one run, and in two."""
+    for kind, climate in KINDS_AND_CLIMATES:
+        data, ledger = random_file(rng, 0, kind, climate, 7), FRESH
+        for at in range(0, 4 * BYTES, BYTES):
+            record = data[at : at + BYTES]
+            yield step_case(ledger, record, expect=0)
+            yield step_case(ledger, damaged(rng, record))
+            ledger = reference.step(ledger, record, bytes(BYTES)).ledger
+        yield run_case(FRESH, data, len(data), (7, 0))
+        yield run_case(FRESH, data[: 4 * BYTES], 4 * BYTES, (4, 0))
+        yield run_case(ledger, data[4 * BYTES :], 3 * BYTES, (3, 0))
+
+
+def stopped(rng):
+    """Runs from the middle of a history that a fault of each number stops, and runs of an unsound ledger."""
+    for j, (kind, climate) in enumerate(KINDS_AND_CLIMATES):
+        ledger = half_spent(rng, kind, climate)
+        data = random_file(rng, ledger.n, kind, climate, 3)
+        yield run_case(ledger, data + data[: rng.randint(1, 47)], 4 * BYTES, (3, 1))
+        yield run_case(ledger, data, 2 * BYTES + rng.randrange(BYTES), (2, 2))
+        after = reference.run(ledger, data, bytes(len(data))).ledger
+        follower = Offer(after, random_record(rng, after.n, kind, climate))
+        for number in range(5, 10):
+            fault = rng.choice([fault for fault in faults.FAULTS if fault.number == number])
+            last = applied(follower, [fault]).data()
+            yield run_case(ledger, data + last + follower.data(), 4 * BYTES, (3, number))
+        unsound = one_off(rng, ledger, j)
+        yield run_case(unsound, data, 3 * BYTES, (0, 3))
+        yield run_case(unsound, data, BYTES - 1, (0, 2))
+        yield run_case(unsound, b"", BYTES, (0, 0))
+
+
+def up_to_the_last(rng):
+    """The last records that a ledger takes, after all others."""
+    for kind, climate in KINDS_AND_CLIMATES:
+        ledger = lived(rng, kind, climate, RECORDS - 2)
+        data = random_file(rng, ledger.n, kind, climate, 3)
+        yield run_case(ledger, data[: 2 * BYTES], 2 * BYTES, (2, 0))
+        yield run_case(ledger, data, 3 * BYTES, (2, 4))
+        full = reference.run(ledger, data, bytes(len(data))).ledger
+        yield step_case(full, data[2 * BYTES :], expect=4)
+        yield step_case(one_off(rng, full, rng.choice(PLACES)), data[2 * BYTES :], expect=3)
+
+
+def one_off(rng, ledger, j):
+    """The ledger with a milligram too many or too few released of one type."""
+    return ledger._replace(released=shifted(ledger.released, {j: rng.choice((1, -1))}))
+
+
+def inert(rng):
+    """Waste of type 6 alone: nothing is brought in, left or released, and what other types hold goes on decaying."""
+    for kind, climate in KINDS_AND_CLIMATES:
+        for ledger in (FRESH, half_spent(rng, kind, climate)):
+            plain = PLAIN._replace(kind=kind, climate=climate)
+            records = [plain._replace(period=ledger.n + i, masses=only(6, MASS_LIMIT)) for i in (1, 2)]
+            yield run_case(ledger, b"".join(map(write_record, records)), 2 * BYTES, (2, 0))
+
+
+def at_random(rng):
+    """A byte changed anywhere, R and released exchanged with and without a fault, any carbon at all, and no images."""
+    for _ in range(60):
+        ledger, data = byte_changed(rng, spent_offer(rng), range(248))
+        yield step_case(ledger, data)
+    for _ in range(60):
+        offer = spent_offer(rng)
+        ledger = offer.ledger._replace(R=offer.ledger.released, released=offer.ledger.R)
+        yield step_case(rng.choice((ledger, one_off(rng, ledger, rng.choice(PLACES)))), offer.data())
+    for _ in range(40):
+        ledger = arbitrary_ledger(rng)
+        ledger = rng.choice((ledger, ledger._replace(released=tuple(rng.randrange(2**64) for _ in PLACES))))
+        data = write_record(follower_of(rng, ledger))
+        yield step_case(ledger, data)
+        yield run_case(ledger, data, BYTES)
+    for place in range(4):
+        zeros = little([(rng.randint(1, 255) << 8 * place, 4)])
+        yield step_case(spent_offer(rng).ledger, write_record(PLAIN), expect=3, zeros=zeros)
+
+
+def released(rng):
+    yield from at_fault(rng)
+    yield from sound(rng)
+    yield from in_parts(rng)
+    yield from stopped(rng)
+    yield from up_to_the_last(rng)
+    yield from inert(rng)
+    yield from at_random(rng)
