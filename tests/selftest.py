@@ -105,12 +105,13 @@ def refused():
         check(f"kind {code} of a ledger", offered(one._replace(kind=code), period=2).refusal, {1: 0, 2: 7}.get(code, 3))
         number = 0 if code == 4 else 7 if 1 <= code <= 3 else 3
         check(f"climate {code} of a ledger", offered(one._replace(climate=code), period=2).refusal, number)
-    for field in ({"kind": 1}, {"climate": 1}, {"T": only(1, 1)}, {"R": only(8, 1)}, {"released": only(6, 1)}):
-        check(f"a fresh ledger with {field}", offered(FRESH._replace(**field)).refusal, 3)
+    mg = only(2, 1)
+    for fields in ({"kind": 1}, {"climate": 1}, {"T": mg}, {"R": mg}, {"released": mg}, {"T": mg, "released": mg}):
+        check(f"a fresh ledger with {fields}", offered(FRESH._replace(**fields)).refusal, 3)
 
 
 def added_up():
-    """Released and R add up to T, or do not, in one type of eight; the sum is the true one."""
+    """Released and R add up to T, or do not, in one type of eight; the sum is the true one, and tested in its turn."""
     last = 2**64 - 1
     for T, R, released, number in [
         (0, 0, 0, 0),
@@ -120,7 +121,7 @@ def added_up():
         (9, 0, 9, 0),
         (9, 5, 3, 3),
         (9, 5, 5, 3),
-        (9, 5, 0, 3),
+        (9, 5, 4 + 2**32, 3),
         (9, 0, 0, 3),
         (0, 0, 1, 3),
         (9, 10, last, 3),
@@ -131,9 +132,11 @@ def added_up():
         for place in range(1, 9):
             ledger = Ledger(1, 1, 4, *(only(place, carbon) for carbon in (T, R, released)))
             wanted = 3 if place == 6 and T > 0 else number
-            check(f"{ledger}", offered(ledger, period=2).refusal, wanted)
+            check(str(ledger), offered(ledger, period=2).refusal, wanted)
     across = Ledger(1, 1, 4, (9,) * 5 + (0, 9, 9), (4,) * 5 + (0, 4, 4), (6, 4, 5, 5, 5, 0, 5, 5))
     check("added up only over all types", offered(across, period=2).refusal, 3)
+    for n, length, room, number in [(1, 47, 47, 1), (1, 48, 47, 2), (1, 48, 48, 3), (1200, 48, 48, 3)]:
+        check(f"the order of {number}", step(across._replace(n=n), bytes(length), bytes(room)).refusal, number)
 
 
 def worked_figures():
