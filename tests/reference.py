@@ -1,7 +1,7 @@
 """Document 01 with requests a and b of document 02 worked out a second time, to run the Rattle code against.
 
-One function for each rule, in the documents' order and with their letters. Everything is a value, and numbers are
-exact: an output buffer goes in as bytes and comes back as bytes. Type j stands at place j - 1 of every list of eight.
+One function for each rule, in the documents' order and with their letters. Numbers are exact, and everything is a
+value: an output buffer goes in as bytes and comes back as bytes. Type j stands at place j - 1 of every list of eight.
 """
 import os
 import sys
