@@ -30,7 +30,8 @@ static void run(const struct entries *it, struct side *s)
 
 static void totals(const struct entries *it, struct side *s)
 {
-    s->answer = it->totals(at(s, LEDGER), length_of(LEDGER), &s->numbers.whole[1], &s->numbers.whole[3]);
+    s->answer = it->totals(at(s, LEDGER), length_of(LEDGER), &s->numbers.whole[1], &s->numbers.whole[3],
+                           &s->numbers.whole[5]);
 }
 
 static void entry(const struct entries *it, struct side *s)
@@ -205,25 +206,24 @@ static void all_sharings(void)
 
 /* ---- Ledgers and steps */
 
+/* Lends so many bytes that start as the image does; those past it are zero or random. */
+static void lend_image(const uint8_t *image, size_t length)
+{
+    uint8_t *bytes = lend(LEDGER, length);
+    if (chance(50)) memset(bytes, 0, length);
+    memcpy(bytes, image, length < IMAGE_BYTES ? length : IMAGE_BYTES);
+}
+
 static void lend_ledger(struct series series, unsigned damaged)
 {
-    uint8_t image[137];
+    uint8_t image[IMAGE_BYTES];
     make_ledger(image, series);
     if (chance(damaged)) damage_ledger(image);
-    size_t length = chance(damaged / 10) ? below(300) : 136;
-    memcpy(lend(LEDGER, length), image, length < 136 ? length : 136);
+    lend_image(image, chance(damaged / 10) ? below(300) : IMAGE_BYTES);
 }
 
 static void all_totals(void)
 {
-    for (size_t length = 0; length <= 300; length++) {
-        lend(LEDGER, length);
-        both("landfill_fresh", fresh);
-        uint8_t image[301] = {0};
-        make_ledger(image, any_series(1200));
-        memcpy(lend(LEDGER, length), image, length);
-        both("landfill_totals", totals);
-    }
     for (int i = 0; i < 40000; i++) {
         lend_ledger(any_series(1200), 60);
         both("landfill_totals", totals);
@@ -264,11 +264,11 @@ static void all_takes(void)
 /* Takes a site through 1200 records and past them, with offers that are refused in between. */
 static void one_history(struct series series)
 {
-    uint8_t image[136] = {0};
+    uint8_t image[IMAGE_BYTES] = {0};
     for (unsigned offer = 0; series.n < 1200 || offer % 8 != 0; offer++) {
-        memcpy(lend(LEDGER, 136), image, 136);
+        lend_image(image, IMAGE_BYTES);
         one_take(series, offer % 4 == 3 ? 100 : 0, 48, 48, 88);
-        memcpy(image, left(LEDGER), 136);
+        memcpy(image, left(LEDGER), IMAGE_BYTES);
         series.n = reference_read(image, 2);
     }
 }
@@ -285,12 +285,18 @@ static void lend_records(struct series series, size_t length, unsigned damaged)
     memcpy(lend(RECORDS, length), file, length);
 }
 
-static void one_run(struct series series, unsigned damaged, size_t length, size_t room)
+/* The ledger is lent before. */
+static void run_file(struct series series, unsigned damaged, size_t length, size_t room)
 {
-    lend_ledger(series, damaged);
     lend_records(series, length, damaged);
     lend(OUT, room);
     both("landfill_run", run);
+}
+
+static void one_run(struct series series, unsigned damaged, size_t length, size_t room)
+{
+    lend_ledger(series, damaged);
+    run_file(series, damaged, length, room);
 }
 
 static void all_runs(void)
@@ -345,6 +351,47 @@ static void all_listings(void)
     }
 }
 
+/* ---- Images of any length, and ledgers with a fault at one type */
+
+/* Hands the image, or as much of it as the length lets, to every entry that reads one, with records that its series takes. */
+static void open_image(const uint8_t *image, size_t length, struct series series)
+{
+    lend_image(image, length);
+    both("landfill_totals", totals);
+    lend_image(image, length);
+    one_take(series, 0, 48, 48, 88);
+    for (size_t count = 0; count <= 2; count++) {
+        lend_image(image, length);
+        run_file(series, 0, 48 * count, 96);
+    }
+}
+
+/* An image of 136 bytes, as it was before it held what was released, is among them, of fresh ledgers and others. */
+static void all_lengths(void)
+{
+    uint8_t image[IMAGE_BYTES];
+    for (size_t length = 0; length <= 300; length++) {
+        lend(LEDGER, length);
+        both("landfill_fresh", fresh);
+        for (uint64_t most = 0; most <= 1200; most += 400) {
+            struct series series = any_series(most);
+            make_ledger(image, series);
+            open_image(image, length, series);
+        }
+    }
+}
+
+static void all_faults(void)
+{
+    uint8_t image[IMAGE_BYTES];
+    for (int i = 0; i < 40 * 8 * WAYS; i++) {
+        struct series series = any_series(i < 10 * 8 * WAYS ? 0 : 1200);
+        make_ledger(image, series);
+        break_type(image, i / WAYS % 8, i % WAYS);
+        open_image(image, IMAGE_BYTES, series);
+    }
+}
+
 int main(int count, char **words)
 {
     uint64_t number = count > 1 ? strtoull(words[1], NULL, 0) : 1;
@@ -360,6 +407,8 @@ int main(int count, char **words)
         for (uint64_t climate = 1; climate <= 4; climate++) one_history((struct series){0, kind, climate});
     all_runs();
     all_listings();
+    all_lengths();
+    all_faults();
     printf("differential: %" PRIu64 " calls, 0 differences (seed %" PRIu64 ")\n", calls(), number);
     return 0;
 }

@@ -5,7 +5,7 @@
 #include <stdio.h>
 #include <string.h>
 
-enum { LEDGER_BYTES = 136, BYTES = 48, ANSWER_BYTES = 88, LINE_BYTES = 90, MOST_LINES = 1201 };
+enum { LEDGER_BYTES = 200, BYTES = 48, ANSWER_BYTES = 88, LINE_BYTES = 90, MOST_LINES = 1201 };
 
 /* Reads an image; gives NULL where it is malformed. */
 static const struct reference_ledger *opened(struct reference_ledger *ledger, const uint8_t *image, size_t image_len)
@@ -17,6 +17,7 @@ static const struct reference_ledger *opened(struct reference_ledger *ledger, co
     for (int t = 0; t < 8; t++) {
         ledger->T[t] = reference_read(image + 8 + 8 * t, 8);
         ledger->R[t] = reference_read(image + 72 + 8 * t, 8);
+        ledger->released[t] = reference_read(image + 136 + 8 * t, 8);
     }
     return ledger;
 }
@@ -30,6 +31,7 @@ static void closed(uint8_t *image, const struct reference_ledger *ledger)
     for (int t = 0; t < 8; t++) {
         reference_write(image + 8 + 8 * t, 8, ledger->T[t]);
         reference_write(image + 72 + 8 * t, 8, ledger->R[t]);
+        reference_write(image + 136 + 8 * t, 8, ledger->released[t]);
     }
 }
 
@@ -81,13 +83,15 @@ uint8_t reference_run(uint8_t *ledger, size_t ledger_len, const uint8_t *records
     return refusal;
 }
 
-uint8_t reference_totals(const uint8_t *ledger, size_t ledger_len, uint64_t *stock, uint64_t *brought)
+uint8_t reference_totals(const uint8_t *ledger, size_t ledger_len, uint64_t *stock, uint64_t *brought,
+                         uint64_t *released)
 {
     struct reference_ledger book;
-    *stock = *brought = 0;
+    *stock = *brought = *released = 0;
     if (!reference_is_sound(opened(&book, ledger, ledger_len))) return 3;
     *stock = reference_total(book.R);
     *brought = reference_total(book.T);
+    *released = reference_total(book.released);
     return 0;
 }
 

@@ -125,27 +125,80 @@ void damage_record(uint8_t *bytes)
     while (chance(40));
 }
 
+/* Where T, R and released of the type at place t stand in an image. */
+static uint8_t *brought_of(uint8_t *image, int t)
+{
+    return image + 8 + 8 * t;
+}
+
+static uint8_t *stock_of(uint8_t *image, int t)
+{
+    return image + 72 + 8 * t;
+}
+
+static uint8_t *released_of(uint8_t *image, int t)
+{
+    return image + 136 + 8 * t;
+}
+
+/* Makes released plus R be T, modulo 2^64 only. */
+static void balance(uint8_t *image, int t)
+{
+    uint64_t T = reference_read(brought_of(image, t), 8), R = reference_read(stock_of(image, t), 8);
+    reference_write(released_of(image, t), 8, T - R);
+}
+
 void make_ledger(uint8_t *image, struct series series)
 {
-    memset(image, 0, 136);
+    memset(image, 0, IMAGE_BYTES);
     if (series.n == 0) return;
     reference_write(image, 2, series.n);
     image[2] = (uint8_t)series.kind;
     image[3] = (uint8_t)series.climate;
     for (int t = 0; t < 8; t++) {
         uint64_t T = edge(0, reference_ceiling(series.n, t));
-        reference_write(image + 8 + 8 * t, 8, T);
-        reference_write(image + 72 + 8 * t, 8, edge(0, T));
+        reference_write(brought_of(image, t), 8, T);
+        reference_write(stock_of(image, t), 8, edge(0, T));
+        balance(image, t);
     }
 }
 
+/* Adds to a number of so many bytes, modulo what they hold. */
+static void add(uint8_t *bytes, int count, uint64_t number)
+{
+    reference_write(bytes, count, reference_read(bytes, count) + number);
+}
+
+/* The first ways leave released plus R at T, though modulo 2^64 only. */
+void break_type(uint8_t *image, int t, int way)
+{
+    uint8_t *T = brought_of(image, t), *R = stock_of(image, t), *released = released_of(image, t);
+    uint64_t above = reference_read(T, 8) + 1, ceiling = reference_ceiling(reference_read(image, 2), t);
+    switch (way) {
+    case 0: reference_write(T, 8, ceiling + 1); break;
+    case 1: reference_write(T, 8, edge(0, UINT64_MAX)); break;
+    case 2: reference_write(R, 8, above); break;
+    case 3: reference_write(R, 8, edge(above, UINT64_MAX)); break;
+    case 4: add(released, 8, 1); return;
+    case 5: add(released, 8, UINT64_MAX); return;
+    case 6: reference_write(released, 8, edge(0, UINT64_MAX)); return;
+    case 7: add(R, 8, UINT64_MAX); return;
+    case 8: reference_write(R, 8, edge(0, UINT64_MAX)); return;
+    default:
+        random_bytes(T, 8);
+        random_bytes(R, 8);
+        random_bytes(released, 8);
+        return;
+    }
+    balance(image, t);
+}
+
+/* What one type has released may go to another, and all of it may be missing. */
 static void break_ledger(uint8_t *image)
 {
-    uint64_t n = reference_read(image, 2);
-    uint64_t pick = below(136);
-    int t = (int)pick % 8;
-    uint8_t *T = image + 8 + 8 * t, *R = image + 72 + 8 * t;
-    switch (below(13)) {
+    uint64_t pick = below(IMAGE_BYTES);
+    int t = (int)below(8), other = (int)below(8);
+    switch (below(15)) {
     case 0: reference_write(image, 2, edge(1201, 65535)); break;
     case 1: reference_write(image, 2, edge(0, 1300)); break;
     case 2: reference_write(image, 2, 0); break;
@@ -153,19 +206,21 @@ static void break_ledger(uint8_t *image)
     case 4: image[3] = outside(1, 4); break;
     case 5: image[2 + pick % 2] = 1; break;
     case 6: image[4 + pick % 4] = (uint8_t)edge(1, 255); break;
-    case 7: reference_write(T, 8, reference_ceiling(n, t) + 1); break;
-    case 8: reference_write(T, 8, edge(0, UINT64_MAX)); break;
-    case 9: reference_write(R, 8, reference_read(T, 8) + 1); break;
-    case 10: reference_write(R, 8, edge(0, UINT64_MAX)); break;
-    case 11: image[pick] = (uint8_t)draw(); break;
-    default: image[pick] ^= (uint8_t)(1u << below(8)); break;
+    case 7:
+        add(released_of(image, t), 8, 1);
+        add(released_of(image, other), 8, UINT64_MAX);
+        break;
+    case 8: memset(released_of(image, 0), 0, 64); break;
+    case 9: image[pick] = (uint8_t)draw(); break;
+    case 10: image[pick] ^= (uint8_t)(1u << below(8)); break;
+    default: break_type(image, t, (int)below(WAYS)); break;
     }
 }
 
 void damage_ledger(uint8_t *image)
 {
-    if (chance(5)) random_bytes(image, 136);
-    if (chance(5)) memset(image, 0, 136);
+    if (chance(5)) random_bytes(image, IMAGE_BYTES);
+    if (chance(5)) memset(image, 0, IMAGE_BYTES);
     do break_ledger(image);
     while (chance(30));
 }
@@ -190,18 +245,12 @@ static uint8_t *some_fraction(uint8_t *sample)
     return sample + 2 * below(8);
 }
 
-/* Adds to a fraction, modulo 2^16. */
-static void add(uint8_t *fraction, uint64_t number)
-{
-    reference_write(fraction, 2, reference_read(fraction, 2) + number);
-}
-
 /* Makes a sample add up, modulo 2^16 only, by one of its fractions. */
 static void add_up(uint8_t *sample)
 {
     uint64_t sum = 0;
     for (int t = 0; t < 8; t++) sum += reference_read(sample + 2 * t, 2);
-    add(some_fraction(sample), 10000 - sum);
+    add(some_fraction(sample), 2, 10000 - sum);
 }
 
 /* A hundredth of a percent may go from one sample to another. */
@@ -209,11 +258,11 @@ static void break_sample(uint8_t *sample, uint8_t *other)
 {
     uint8_t *fraction = some_fraction(sample), *byte = sample + below(16);
     switch (below(9)) {
-    case 0: add(fraction, 1); break;
-    case 1: add(fraction, UINT64_MAX); break;
+    case 0: add(fraction, 2, 1); break;
+    case 1: add(fraction, 2, UINT64_MAX); break;
     case 2:
-        add(fraction, 1);
-        add(some_fraction(other), UINT64_MAX);
+        add(fraction, 2, 1);
+        add(some_fraction(other), 2, UINT64_MAX);
         break;
     case 3: reference_write(fraction, 2, edge(10001, 65535)); break;
     case 4:

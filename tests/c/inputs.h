@@ -32,8 +32,12 @@ void make_file(uint8_t *bytes, size_t count, struct series series);
 /* Breaks one rule or more, or, by luck, none. */
 void damage_record(uint8_t *bytes);
 
-/* An image of a sound ledger, and one damaged in one way or more. */
+/* The bytes of an image, and the number of ways to break one type of it. */
+enum { IMAGE_BYTES = 200, WAYS = 10 };
+
+/* An image of a sound ledger, one broken at the type at place t alone, and one damaged in one way or more. */
 void make_ledger(uint8_t *image, struct series series);
+void break_type(uint8_t *image, int t, int way);
 void damage_ledger(uint8_t *image);
 
 /* Samples that each add up, and so many of which some do not, or, by luck, all do. */

@@ -135,6 +135,7 @@ bool reference_is_sound(const struct reference_ledger *ledger)
     for (int t = 0; t < TYPES; t++) {
         if (ledger->T[t] > reference_ceiling(ledger->n, t)) return false;
         if (ledger->R[t] > ledger->T[t]) return false;
+        if ((wide)ledger->released[t] + ledger->R[t] != ledger->T[t]) return false;
     }
     return true;
 }
@@ -228,6 +229,7 @@ void reference_accept(struct reference_ledger *ledger, const uint8_t *record, ui
         uint64_t deposit = it.mass[t] * DOC[t] * 100;
         uint32_t D = reference_entry(ledger->kind, RATES[t][ledger->climate - 1]);
         answer->releases[t] = decay(&ledger->T[t], &ledger->R[t], deposit, D);
+        ledger->released[t] += answer->releases[t];
     }
     answer->x0 = reference_total(answer->releases);
     answer->figure = figure_of(&it, answer->x0);

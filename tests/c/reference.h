@@ -7,12 +7,12 @@
 #include <stddef.h>
 #include <stdint.h>
 
-/* The number n of accepted records, their kind and climate, and for each type the carbon brought in (T) and the carbon
- * left (R), in mg. Place 0 is type 1. */
+/* The number n of accepted records, their kind and climate, and for each type the carbon brought in (T), the carbon left
+ * (R) and the carbon released so far, in mg. Place 0 is type 1. */
 struct reference_ledger {
     uint16_t n;
     uint8_t kind, climate;
-    uint64_t T[8], R[8];
+    uint64_t T[8], R[8], released[8];
 };
 
 /* The eight releases and x0 in mg, figure and bound in grams CO2e. */
@@ -38,7 +38,8 @@ uint8_t reference_take(uint8_t *ledger, size_t ledger_len, const uint8_t *record
                        size_t out_len, uint8_t *answer, size_t answer_len);
 uint8_t reference_run(uint8_t *ledger, size_t ledger_len, const uint8_t *records, size_t records_len, uint8_t *out,
                       size_t out_len, uint64_t *accepted);
-uint8_t reference_totals(const uint8_t *ledger, size_t ledger_len, uint64_t *stock, uint64_t *brought);
+uint8_t reference_totals(const uint8_t *ledger, size_t ledger_len, uint64_t *stock, uint64_t *brought,
+                         uint64_t *released);
 uint32_t reference_entry(uint8_t kind, uint16_t rate);
 uint8_t reference_cell(uint8_t filled, double kg, uint32_t *mass);
 uint8_t reference_point(uint64_t figure, uint64_t bound, double *at, double *low, double *high);

@@ -115,7 +115,7 @@ static void print_numbers(const char *title, const struct side *side)
     uint64_t real[7];
     memcpy(real, it->real, sizeof real);
     printf("%s: answer %" PRIu64 "; whole", title, side->answer);
-    for (int i = 0; i < 5; i++) printf(" %" PRIx64, it->whole[i]);
+    for (int i = 0; i < 7; i++) printf(" %" PRIx64, it->whole[i]);
     printf("; real");
     for (int i = 0; i < 7; i++) printf(" %" PRIx64, real[i]);
     printf("; masses");

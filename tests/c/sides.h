@@ -12,7 +12,7 @@ enum { ZONE = 64, LONGEST = 131072, ROOM = ZONE + 8 + LONGEST + ZONE };
 /* The numbers that an entry writes behind pointers stand at the odd places; the even ones are red zones. A place of masses
  * is a row of eight, and where an entry writes one mass, it is the first of them. */
 struct numbers {
-    uint64_t whole[5];
+    uint64_t whole[7];
     double real[7];
     uint32_t masses[3][8];
 };
@@ -36,7 +36,7 @@ struct entries {
     uint8_t (*fresh)(uint8_t *, size_t);
     uint8_t (*take)(uint8_t *, size_t, const uint8_t *, size_t, uint8_t *, size_t, uint8_t *, size_t);
     uint8_t (*run)(uint8_t *, size_t, const uint8_t *, size_t, uint8_t *, size_t, uint64_t *);
-    uint8_t (*totals)(const uint8_t *, size_t, uint64_t *, uint64_t *);
+    uint8_t (*totals)(const uint8_t *, size_t, uint64_t *, uint64_t *, uint64_t *);
     uint32_t (*entry)(uint8_t, uint16_t);
     uint8_t (*cell)(uint8_t, double, uint32_t *);
     uint8_t (*point)(uint64_t, uint64_t, double *, double *, double *);

@@ -24,9 +24,10 @@ uint8_t landfill_run(uint8_t *ledger, size_t ledger_len, const uint8_t *records,
     return reference_run(ledger, ledger_len, records, records_len, out, out_len, accepted);
 }
 
-uint8_t landfill_totals(const uint8_t *ledger, size_t ledger_len, uint64_t *stock, uint64_t *brought)
+uint8_t landfill_totals(const uint8_t *ledger, size_t ledger_len, uint64_t *stock, uint64_t *brought,
+                        uint64_t *released)
 {
-    return reference_totals(ledger, ledger_len, stock, brought);
+    return reference_totals(ledger, ledger_len, stock, brought, released);
 }
 
 uint32_t landfill_entry(uint8_t kind, uint16_t rate)
