@@ -52,7 +52,7 @@ static void check_codes(void)
 
 static void check_sizes(void)
 {
-    check("a size", LANDFILL_LEDGER_BYTES == 136 && LANDFILL_RECORD_BYTES == 48 && LANDFILL_ANSWER_BYTES == 88);
+    check("a size", LANDFILL_LEDGER_BYTES == 200 && LANDFILL_RECORD_BYTES == 48 && LANDFILL_ANSWER_BYTES == 88);
     check("the size of a line or a listing", LANDFILL_LINE_BYTES == 90 && LANDFILL_LISTING_BYTES == 1201 * 90);
     check("the size of a sample", LANDFILL_SAMPLE_BYTES == 16);
     check("a limit", LANDFILL_RECORDS == 1200 && LANDFILL_MASS_LIMIT == 1000000000);
@@ -66,6 +66,7 @@ static void check_places(void)
     static const int out[] = {LANDFILL_OUT_AT_X0, LANDFILL_OUT_AT_FIGURE, LANDFILL_OUT_AT_BOUND, LANDFILL_OUT_AT_STOCK,
                               LANDFILL_OUT_AT_BROUGHT};
     static const int answer[] = {LANDFILL_ANSWER_AT_X0, LANDFILL_ANSWER_AT_FIGURE, LANDFILL_ANSWER_AT_BOUND};
+    static const int ledger[] = {LANDFILL_LEDGER_AT_BROUGHT, LANDFILL_LEDGER_AT_STOCK, LANDFILL_LEDGER_AT_RELEASED};
     check("the place of a period", LANDFILL_RECORD_AT_PERIOD == 0 && LANDFILL_OUT_AT_PERIOD == 0);
     check_row("a place in a record", record, 9, 2, 1);
     check("the place of the zeros or the masses", LANDFILL_RECORD_AT_ZERO == 12 && LANDFILL_RECORD_AT_MASSES == 16);
@@ -74,6 +75,10 @@ static void check_places(void)
     check_row("a place in an output record", out, 5, 8, 8);
     check("the place of the releases in an answer", LANDFILL_ANSWER_AT_RELEASES == 0);
     check_row("a place in an answer", answer, 3, 64, 8);
+    check("the place of n, kind or climate in a ledger image",
+          LANDFILL_LEDGER_AT_N == 0 && LANDFILL_LEDGER_AT_KIND == 2 && LANDFILL_LEDGER_AT_CLIMATE == 3);
+    check("the place of the zeros in a ledger image", LANDFILL_LEDGER_AT_ZERO == 4);
+    check_row("a place in a ledger image", ledger, 3, 8, 64);
 }
 
 /* Every field has bytes of its own: no two are alike. */
@@ -200,6 +205,20 @@ static void check_output(void)
     check("the release of no type", landfill_get_release(answer, 0) == 0 && landfill_get_release(answer, 9) == 0);
 }
 
+static void check_released(void)
+{
+    /* Every byte of the image holds its own place. */
+    static const uint64_t released[LANDFILL_TYPES] = {0x8f8e8d8c8b8a8988u, 0x9796959493929190u, 0x9f9e9d9c9b9a9998u,
+                                                      0xa7a6a5a4a3a2a1a0u, 0xafaeadacabaaa9a8u, 0xb7b6b5b4b3b2b1b0u,
+                                                      0xbfbebdbcbbbab9b8u, 0xc7c6c5c4c3c2c1c0u};
+    uint8_t ledger[LANDFILL_LEDGER_BYTES];
+    unsigned i;
+    for (i = 0; i < sizeof ledger; i++) ledger[i] = (uint8_t)i;
+    for (i = 0; i < LANDFILL_TYPES; i++)
+        check("landfill_get_released_so_far", landfill_get_released_so_far(ledger, i + 1) == released[i]);
+    check("what no type has released", landfill_get_released_so_far(ledger, 0) == 0 && landfill_get_released_so_far(ledger, 9) == 0);
+}
+
 static void check_kg(void)
 {
     static const struct {
@@ -240,6 +259,7 @@ int main(void)
     check_masses();
     check_numbers();
     check_output();
+    check_released();
     check_kg();
     check_texts();
     return wrong;
