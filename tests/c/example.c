@@ -34,6 +34,18 @@ static void print_output(const uint8_t *out)
            it.kind == LANDFILL_YEARLY ? "year" : "month", it.period, it.x0, it.figure, it.bound);
 }
 
+/* What a ledger has to show at any time, with no output record at hand. */
+static void print_ledger(const uint8_t *ledger, size_t ledger_len)
+{
+    uint64_t stock, brought, released;
+    expect("ledger", landfill_totals(ledger, ledger_len, &stock, &brought, &released));
+    printf("in the ground: %" PRIu64 " mg of %" PRIu64 " mg brought in; released so far: %" PRIu64 " mg\n", stock, brought,
+           released);
+    printf("  of this, paper released %" PRIu64 " mg, food %" PRIu64 " mg, inert %" PRIu64 " mg\n",
+           landfill_get_released_so_far(ledger, LANDFILL_PAPER), landfill_get_released_so_far(ledger, LANDFILL_FOOD),
+           landfill_get_released_so_far(ledger, LANDFILL_INERT));
+}
+
 /* A month whose loads were weighed, but not by type: three of them were sorted, in hundredths of a percent. */
 static void sorted_month(struct landfill_record month)
 {
@@ -62,7 +74,7 @@ int main(void)
 {
     uint8_t ledger[LANDFILL_LEDGER_BYTES], first[LANDFILL_RECORD_BYTES], later[2 * LANDFILL_RECORD_BYTES];
     uint8_t out[2 * LANDFILL_RECORD_BYTES], answer[LANDFILL_ANSWER_BYTES], refusal;
-    uint64_t accepted, stock, brought;
+    uint64_t accepted;
     uint32_t kg;
 
     /* The first year: an unmanaged deep site in a temperate wet climate, a fifth of its gas captured. */
@@ -101,8 +113,7 @@ int main(void)
     if (refusal != LANDFILL_ACCEPTED) say("the record after these", refusal);
 
     /* The refused record has left the ledger as it was. */
-    landfill_totals(ledger, sizeof ledger, &stock, &brought);
-    printf("in the ground: %" PRIu64 " mg of %" PRIu64 " mg brought in\n", stock, brought);
+    print_ledger(ledger, sizeof ledger);
 
     /* Why tonnes are rounded: 2.01 * 1000.0 is 2009.9999999999998. */
     refusal = landfill_cell(1, 2.01 * 1000.0, &kg);
