@@ -397,6 +397,8 @@ int main(int count, char **words)
     uint64_t number = count > 1 ? strtoull(words[1], NULL, 0) : 1;
     seed(number);
     reference_start();
+    all_lengths();
+    all_faults();
     all_look_ups();
     all_cells();
     all_points();
@@ -407,8 +409,6 @@ int main(int count, char **words)
         for (uint64_t climate = 1; climate <= 4; climate++) one_history((struct series){0, kind, climate});
     all_runs();
     all_listings();
-    all_lengths();
-    all_faults();
     printf("differential: %" PRIu64 " calls, 0 differences (seed %" PRIu64 ")\n", calls(), number);
     return 0;
 }

@@ -35,7 +35,7 @@ void damage_record(uint8_t *bytes);
 /* The bytes of an image, and the number of ways to break one type of it. */
 enum { IMAGE_BYTES = 200, WAYS = 10 };
 
-/* An image of a sound ledger, one broken at the type at place t alone, and one damaged in one way or more. */
+/* An image of a sound ledger; one broken at the type at place t alone, or, by luck, not; one damaged in one way or more. */
 void make_ledger(uint8_t *image, struct series series);
 void break_type(uint8_t *image, int t, int way);
 void damage_ledger(uint8_t *image);
