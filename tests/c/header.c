@@ -216,7 +216,8 @@ static void check_released(void)
     for (i = 0; i < sizeof ledger; i++) ledger[i] = (uint8_t)i;
     for (i = 0; i < LANDFILL_TYPES; i++)
         check("landfill_get_released_so_far", landfill_get_released_so_far(ledger, i + 1) == released[i]);
-    check("what no type has released", landfill_get_released_so_far(ledger, 0) == 0 && landfill_get_released_so_far(ledger, 9) == 0);
+    check("what no type has released",
+          landfill_get_released_so_far(ledger, 0) == 0 && landfill_get_released_so_far(ledger, 9) == 0);
 }
 
 static void check_kg(void)
