@@ -153,10 +153,10 @@ enum {
  *   (DOC in hundredths of a percent: 4300, 4000, 1500, 2400, 2000, 0, 500, 900 for types 1 to 8).
  * Nothing else is tested. An image that was changed within these limits is taken as it stands, so guard the file.
  *
- * Images of 136 bytes, which were kept before ledgers held what was released, are no images any more: every entry answers 3
- * to one. Whoever has one runs the site's file of records again, from a fresh ledger: the same records give the same
- * figures, and the new image. An image of 136 bytes is not to be filled up with zeros; that is refused with 3 as well, as
- * soon as anything was released. */
+ * An image of 136 bytes, as it was kept before ledgers held what was released, is no image any more: it is refused with 3,
+ * as any bytes of another length. Whoever has one runs the site's file of records again, from a fresh ledger: the same
+ * records give the same figures, and the new image. Do not fill it up with zeros: as soon as anything was released, that is
+ * refused with 3 as well. */
 
 /* Refusals. A record is tested in the order of 1 to 9, and a total with its samples in the order of 14 to 16; the first that
  * holds is the answer. */

@@ -13,9 +13,9 @@ for file in differential sides inputs reference entries; do
 done
 
 caught=0 missed=0
-while IFS='|' read -r name file edit; do
-    case $name in '#'* | '') continue ;; esac
-    name=${name% } file=${file# } edit=${edit# }
+while IFS='|' read -r slip file edit; do
+    case $slip in '#'* | '') continue ;; esac
+    slip=${slip% } file=${file# } edit=${edit# }
     standin "${file% }" "$edit"
     build slip $objects "$target/standin/libstandin.a"
     status=0
@@ -24,7 +24,7 @@ while IFS='|' read -r name file edit; do
         caught=$((caught + 1))
     else
         missed=$((missed + 1))
-        echo "NOT CAUGHT: $name (status $status)"
+        echo "NOT CAUGHT: $slip (status $status)"
     fi
 done <tests/c/slips.txt
 echo "slips: $caught caught, $missed missed"
