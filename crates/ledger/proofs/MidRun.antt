@@ -15,7 +15,7 @@ use Rattle.record.specs.Fields.{recordBytes, kindOf, climateOf}
 use Rattle.record.specs.Ranges.{light}
 use Rattle.stock.specs.Stock.{entryAt}
 use Rattle.refusal.specs.Refusal.{faultsOf}
-use Rattle.ledger.specs.Stock.{after}
+use Rattle.ledger.specs.Stock.{releasedAt, after}
 use Rattle.ledger.specs.Refusal.{sound, refusalOf}
 use Rattle.ledger.specs.Take.{acceptedOf, outputRecord}
 use Rattle.refusal.specs.Reach.{reachOf, leftOver}
@@ -39,6 +39,8 @@ pub record MidRun (l₀ : Ledger) (file out₀ entries : List ℕ) (good : Bool)
   pub done : List Turn
   pub counted : at ≡ recordBytes * length done
   pub grown : l .n ≡ l₀ .n + length done
+  pub begun : at ≡ 0 → l ≡ l₀
+  pub held-to : 0 < at → (sound l ≡ true) × (l .released ≡ eight (releasedAt l))
   pub put-out : take at out ≡ outputs done
   pub so-far : runOf l₀ (recordsOf file) (length out₀) ≡ onFrom done (runOf l (recordsOf (drop at file)) (length out - at))
 
@@ -55,6 +57,8 @@ run-starts l file out entries good flag fit =
       done = [];
       counted = omega arith;
       grown = omega arith;
+      begun = λ z. refl;
+      held-to = λ some. absurd (omega arith);
       put-out = refl;
       so-far = ap (λ (k : ℕ). runOf l (recordsOf file) k) (omega arith);
     }
@@ -106,6 +110,14 @@ module _ {l₀ : Ledger} {file out₀ entries : List ℕ} {good : Bool} {out : L
   Ends q =
       (record { ledger = l; accepted = l .n - l₀ .n; refusal = q } ≡ outcomeOf (runOf l₀ (recordsOf file) (length out₀)))
       × (out ≡ outOf (runOf l₀ (recordsOf file) (length out₀)) out₀)
+
+  -- what was released can be worked out where a record was accepted, and stays where none was
+  pub may-settle : (accepted : ℕ) → accepted ≡ l .n - l₀ .n
+      → (accepted ≡ 0 → l .released ≡ l₀ .released) × ((accepted ≡ 0 → ⊥) → (sound l ≡ true) × (l .released ≡ eight (releasedAt l)))
+  may-settle accepted e = (
+    λ z. ap (λ (m : Ledger). m .released) (h .begun (omega (arith, h .counted, h .grown))),
+    λ some. h .held-to (omega (arith, h .counted, h .grown, some)),
+  )
 
   -- where the run stops
   ends : (q : ℕ) → runOf l (recordsOf (drop at file)) room ≡ stopped l q → Ends q
@@ -201,6 +213,8 @@ module _ {l₀ : Ledger} {file out₀ entries : List ℕ} {good : Bool} {out : L
         done = h .done ++ (turn ∷ []);
         counted = omega (arith, h .counted, length-append (h .done) (turn ∷ []));
         grown = omega (arith, h .grown, length-append (h .done) (turn ∷ []));
+        begun = λ z. absurd (omega arith);
+        held-to = λ some. (accepted-sound l here a, refl);
         put-out = ap (take (at + 48)) e′ ∙ take-at (w ++ o) (drop 48 (drop at out)) (at + 48) m
             ∙ rw (h .put-out, outputs-join (h .done) (turn ∷ []), append-nil);
         so-far =

@@ -1,14 +1,14 @@
 -- What a sound ledger holds of each type, and that a ledger of which all that holds is sound.
 use mathlib.Core.Path.{_≡_, refl, sym, _∙_}
 use mathlib.Core.Bool.{Bool, true, false, cond, _&&_, and-false}
-use Prim.Native.Nat.{ℕ, zero, suc, _+_, _≤_, _<_}
+use Prim.Native.Nat.{ℕ, zero, suc, _+_, _-_, _≤_, _<_}
 use native.Mathlib.Decide.{ℕ-discrete}
 use native.Mathlib.Nat.{zero-mul, add-zero}
 use native.Mathlib.Omega.{arith}
 use borrow.Author.Tests.{eq-eqb, ne-eqb, le-leb, leb-true, eqb-true}
 use lib.Dec.{eqb, leb, leb·suc-zero, eqb·suc-zero}
-use Rattle.numbers.specs.Eight.{everyOf}
-use Rattle.numbers.proofs.Eight.{both-true, three-true, every-at, every-each, every-same}
+use Rattle.numbers.specs.Eight.{eight, everyOf}
+use Rattle.numbers.proofs.Eight.{both-true, three-true, every-at, every-each, every-same, eight-same}
 use Rattle.decay.specs.Series.{isKind}
 use Rattle.waste.specs.Waste.{isClimate}
 use Rattle.stock.specs.Stock.{mostRecords, mostBrought, ceilingOf, withinOf}
@@ -70,6 +70,11 @@ sound-is l e =
       | yes z ↦ empty l few z (simp (eq-eqb (l .n) 0 z) at (p .1))
       | no z ↦ ordered l few (simp (ne-eqb (l .n) 0 z) at (p .1))
     ]
+
+-- What is gone of T is what was released.
+pub gone-is : (l : Ledger) → sound l ≡ true → eight (λ t. broughtAt l t - stockAt l t) ≡ eight (releasedAt l)
+gone-is l e =
+    eight-same (λ t. broughtAt l t - stockAt l t) (releasedAt l) (λ t h. omega (arith, sound-is l e .at t h .parted))
 
 -- A ledger with records, in order, is sound.
 pub is-sound : (l : Ledger) → l .n ≤ mostRecords → (l .n ≡ 0 → ⊥) → inCode l ≡ true

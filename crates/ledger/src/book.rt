@@ -1,10 +1,10 @@
 // The ledger, from value to value.
-ghost use mathlib.Core.Bool.{cond, _&&_};
+ghost use mathlib.Core.Bool.{true, cond, _&&_};
 ghost use mathlib.Core.List.{_++_};
 ghost use mathlib.Core.Path.{_≡_};
-ghost use Prim.Native.Nat.{ℕ, _-_, _≤_, _<_};
+ghost use Prim.Native.Nat.{_<_};
 ghost use lib.Dec.{eqb};
-ghost use lib.ListN.{length, getD, drop};
+ghost use lib.ListN.{length, drop};
 ghost use Rattle.numbers.specs.Eight.{eight};
 ghost use Rattle.decay.specs.Series.{isKind};
 ghost use Rattle.waste.specs.Waste.{isClimate};
@@ -19,6 +19,7 @@ use crate::file;
 use crate::period::Decayed;
 use crate::period::Period;
 use crate::period::left;
+use crate::period::less;
 use output::Output;
 use record::Factors;
 
@@ -181,16 +182,28 @@ impl Ledger {
         }
     }
 
-    // Answers what each type released since it had released so much.
-    fn released_since(self, before: [u64; 8]) -> [u64; 8]
-        requires { ⌜ ((t : ℕ) → (t < 8 → getD before t 0 ≤ releasedAt self t)) ⌝ }
-        ensures { λ r. ⌜ r ≡ eight (λ t. releasedAt self t - getD before t 0) ⌝ }
+    // Answers the ledger again at the end of a run, with what each type has released worked out: T less R, which it is in a sound
+    // ledger, and as before the run where no record was accepted. So the compiled loop of a run has nothing to carry for it.
+    pub(crate) fn settled(self, before: [u64; 8], accepted: u64) -> Ledger
+        requires { ⌜ (accepted ≡ 0 → self .released ≡ before) ⌝ }
+        requires { ⌜ ((accepted ≡ 0 → ⊥) → (sound self ≡ true) × (self .released ≡ eight (releasedAt self))) ⌝ }
+        ensures { λ r. ⌜ r ≡ self ⌝ }
     {
-        let mut releases = [0u64; 8];
-        for t in 0..8 {
-            releases[t] = self.released[t] - before[t];
+        let brought = self.brought;
+        let stock = self.stock;
+        let released = if accepted == 0 {
+            before
+        } else {
+            less(brought, stock)
+        };
+        Ledger {
+            n: self.n,
+            kind: self.kind,
+            climate: self.climate,
+            brought,
+            stock,
+            released,
         }
-        releases
     }
 
     // Answers that a record is refused by a number; the ledger comes back as it is.
@@ -222,11 +235,12 @@ impl Ledger {
             return self.refused(end.refusal);
         }
         let after = end.ledger;
+        let released = after.released;
         let before = self.released;
         Answer {
             ledger: after,
             refusal: 0,
-            releases: after.released_since(before),
+            releases: less(released, before),
             x0: numbers::read_u64(out, 8),
             figure: numbers::read_u64(out, 16),
             bound: numbers::read_u64(out, 24),

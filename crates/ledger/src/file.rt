@@ -33,6 +33,7 @@ pub fn run(ledger: Ledger, records: &[u8], out: &mut [u8]) -> Outcome
     let entries = run_entries(ledger, records);
     let reach = refusal::reach(records.len(), out.len());
     let first = ledger.n;
+    let before = ledger.released;
     let mut ledger = ledger;
     let mut at: usize = 0;
     let end = 'records: loop {
@@ -61,8 +62,9 @@ pub fn run(ledger: Ledger, records: &[u8], out: &mut [u8]) -> Outcome
         ledger = next;
         at += Ledger::BYTES;
     };
+    let settled = ledger.settled(before, end.0);
     Outcome {
-        ledger,
+        ledger: settled,
         accepted: end.0,
         refusal: end.1,
     }

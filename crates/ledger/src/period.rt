@@ -1,6 +1,8 @@
 // What a period makes of the types' carbon, in mg.
 ghost use mathlib.Core.Path.{_≡_};
-ghost use Prim.Native.Nat.{_^_, _≤_, _<_};
+ghost use Prim.Native.Nat.{ℕ, _-_, _^_, _≤_, _<_};
+ghost use lib.ListN.{getD};
+ghost use Rattle.numbers.specs.Eight.{eight};
 ghost use Rattle.ledger.specs.Stock.{leftOf};
 
 // One type after a record: the carbon brought in, the carbon left, the carbon that the record released, and all released so far.
@@ -25,4 +27,16 @@ pub(crate) fn left(held: u64, entry: u32) -> u64
     ensures { λ r. ⌜ (r ≡ leftOf held entry) × (r ≤ held) ⌝ }
 {
     numbers::mul_div(held, entry as u64, 1_000_000_000)
+}
+
+// Answers how much more each type has in one list than in another.
+pub(crate) fn less(of: [u64; 8], by: [u64; 8]) -> [u64; 8]
+    requires { ⌜ ((t : ℕ) → (t < 8 → getD by t 0 ≤ getD «of» t 0)) ⌝ }
+    ensures { λ r. ⌜ r ≡ eight (λ t. getD «of» t 0 - getD by t 0) ⌝ }
+{
+    let mut more = [0u64; 8];
+    for t in 0..8 {
+        more[t] = of[t] - by[t];
+    }
+    more
 }

@@ -64,20 +64,20 @@ returns-2 c =
     (c .refused2 .ensures ∙ r .0, ran .run .ensures .1 ∙ one-written (a .self) (a .bytes .now) (now (a .out)) (ran .before .before .if1 .left))
 
 -- what was released so far only grows
-released-since-requires : tie.Need-released-since-requires
+less-requires : tie.Need-less-requires
 unfolding acceptedOf
-released-since-requires c κs t place =
-    let e = c .before .before in
+less-requires c κs t place =
+    let e = c .before .before .before in
     let a = e .before .before .before .before .before .before .before .before .before .args in
     rw (ledger-is e) (omega (arith, released-after (a .self) (a .bytes .now) t place))
 
 returns-3 : tie.Need-returns-3
 unfolding acceptedOf outputFields
 returns-3 c =
-    let e = c .before .before .before .before .before .before .before .before .before in
+    let e = c .before .before .before .before .before .before .before .before .before .before in
     let a = e .before .before .before .before .before .before .before .before .before .args in
     let says = said e in (
-      rw (taken (a .self) (a .bytes .now) (length (now (a .out))) (none e), c .before .before .before .before .before .before .released-since .ensures, ledger-is e, released-between (a .self) (a .bytes .now))
+      rw (taken (a .self) (a .bytes .now) (length (now (a .out))) (none e), c .before .before .before .before .before .before .less .ensures, ledger-is e, released-between (a .self) (a .bytes .now))
           (rw (c .read-u643 .ensures, c .before .before .read-u642 .ensures, c .before .before .before .before .read-u64 .ensures, says .x0, says .figure, says .bound)),
       e .before .before .before .before .run .ensures .1 ∙ one-written (a .self) (a .bytes .now) (now (a .out)) (e .before .before .before .before .before .before .if1 .left),
     )
@@ -85,8 +85,8 @@ returns-3 c =
 pub take-spec : {M : Type 1} → statement M
 take-spec =
     tie.close
-    (tie.spec (λ c κs. search needs) returns (λ c κs. search needs) (λ c κs. search needs) (λ c. search needs) returns-2 released-since-requires
-    (λ c κs. omega (arith, room-left (c .before .before .before .before)))
-    (λ c κs. omega (arith, room-left (c .before .before .before .before .before .before)))
-    (λ c κs. omega (arith, room-left (c .before .before .before .before .before .before .before .before)))
+    (tie.spec (λ c κs. search needs) returns (λ c κs. search needs) (λ c κs. search needs) (λ c. search needs) returns-2 less-requires
+    (λ c κs. omega (arith, room-left (c .before .before .before .before .before)))
+    (λ c κs. omega (arith, room-left (c .before .before .before .before .before .before .before)))
+    (λ c κs. omega (arith, room-left (c .before .before .before .before .before .before .before .before .before)))
     (λ c. search needs) returns-3)
