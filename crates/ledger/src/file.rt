@@ -37,7 +37,7 @@ pub fn run(ledger: Ledger, records: &[u8], out: &mut [u8]) -> Outcome
     let mut ledger = ledger;
     let mut at: usize = 0;
     let end = 'records: loop {
-        if at == reach {
+        if at >= reach {
             let left = refusal::left_over(records.len() - at);
             break 'records End((ledger.n - first) as u64, left);
         }

@@ -99,14 +99,14 @@ left-with : (c : tie.Joined1 Inv-loop μ-loop Inv-records μ-records) → let h 
 left-with c =
     let h = c .before in
     let mid = h .records .inv .0 in
-    let byte = add-sub-cancel-left (h .records .at) 48 in
+    let size = add-sub-cancel-left (h .records .at) 48 in
     ⊎-elim
-    (λ w. rw (w .3) (refl, rw (w .1 .ensures) (at-last mid (rw (mid .as-long) (w .0 .taken ∙ h .before .before .reach .ensures)))))
+    (λ w. rw (w .3) (refl, rw (w .1 .ensures) (at-last mid (rw (mid .as-long) (omega (arith, w .0 .taken, h .records .inv .1, h .before .before .reach .ensures))))))
     (⊎-elim
     (λ w.
     let r = ready (record { before = h; if1 = w .0 }) in
     rw (w .5)
-    (refl, at-early mid _ (omega (arith, r .in-file)) (omega (arith, r .in-out)) (rw byte at (w .2 .ensures)) (w .3 .taken)))
+    (refl, at-early mid _ (omega (arith, r .in-file)) (omega (arith, r .in-out)) (rw size at (w .2 .ensures)) (w .3 .taken)))
     (λ w.
     let r = ready (record { before = h; if1 = w .0 }) in
     rw (w .9) (
