@@ -112,7 +112,7 @@ left-with c =
     rw (w .9) (
       refl,
       at-heavy mid (none-early (record { before = record { before = record { before = h; if1 = w .0 }; bytes = w .1 }; early = w .2 }) (w .3 .left))
-          (omega (arith, r .in-file)) (omega (arith, r .in-out)) (w .4 .t) (search needs) (rw byte at (sym (w .6 .ensures) ∙ not-true _ (w .7 .taken))),
+          (omega (arith, r .in-file)) (omega (arith, r .in-out)) (w .4 .t) (search needs) (rw size at (sym (w .6 .ensures) ∙ not-true _ (w .7 .taken))),
     )))
     (c .if1 .came)
 
