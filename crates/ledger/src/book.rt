@@ -1,13 +1,11 @@
 // The ledger, from value to value.
-ghost use mathlib.Core.Bool.{true, cond, _&&_};
+ghost use mathlib.Core.Bool.{true, cond};
 ghost use mathlib.Core.List.{_++_};
 ghost use mathlib.Core.Path.{_≡_};
 ghost use Prim.Native.Nat.{_<_};
 ghost use lib.Dec.{eqb};
 ghost use lib.ListN.{length, drop};
 ghost use Rattle.numbers.specs.Eight.{eight};
-ghost use Rattle.decay.specs.Series.{isKind};
-ghost use Rattle.waste.specs.Waste.{isClimate};
 ghost use Rattle.record.specs.Fields.{kindOf, climateOf};
 ghost use Rattle.stock.specs.Stock.{entryAt};
 ghost use Rattle.ledger.specs.Stock.{fresh, releasedAt, decayedAt, periodOfAll};

@@ -29,14 +29,14 @@ pub(crate) fn left(held: u64, entry: u32) -> u64
     numbers::mul_div(held, entry as u64, 1_000_000_000)
 }
 
-// Answers how much more each type has in one list than in another.
+// Answers what each type has in one list less what it has in another.
 pub(crate) fn less(of: [u64; 8], by: [u64; 8]) -> [u64; 8]
     requires { ⌜ ((t : ℕ) → (t < 8 → getD by t 0 ≤ getD «of» t 0)) ⌝ }
     ensures { λ r. ⌜ r ≡ eight (λ t. getD «of» t 0 - getD by t 0) ⌝ }
 {
-    let mut more = [0u64; 8];
+    let mut rest = [0u64; 8];
     for t in 0..8 {
-        more[t] = of[t] - by[t];
+        rest[t] = of[t] - by[t];
     }
-    more
+    rest
 }

@@ -10,7 +10,6 @@ use borrow.Author.Needs.{needs}
 use borrow.Author.Count.{below-more}
 use borrow.Author.Tests.{not-true, not-false}
 use lib.ListN.{length, take, drop}
-use Rattle.record.specs.Fields.{recordBytes}
 use Rattle.record.specs.Ranges.{light}
 use Rattle.ledger.specs.Refusal.{refusalOf}
 use Rattle.ledger.specs.Take.{acceptedOf, outputRecord}

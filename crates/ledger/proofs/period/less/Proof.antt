@@ -1,4 +1,4 @@
--- Before place t the loop has filled in how much more the first t types have.
+-- Before place t the loop has filled in the differences of the first t types.
 use mathlib.Core.Path.{_≡_, refl}
 use Prim.Native.Nat.{_-_, _≤_}
 use native.Mathlib.Omega.{arith}
@@ -9,10 +9,10 @@ use Rattle.ledger.proofs.period.less.Statement.{statement}
 use Rattle.ledger.proofs.period.less.Tie as tie
 
 abbrev Inv-loop : tie.InvT-loop
-Inv-loop whole part more₀ t₀ more t = (t ≤ 8) × (more ≡ filled (λ u. getD whole u 0 - getD part u 0) t)
+Inv-loop whole part rest₀ t₀ rest t = (t ≤ 8) × (rest ≡ filled (λ u. getD whole u 0 - getD part u 0) t)
 
 abbrev μ-loop : tie.MeasureT-loop
-μ-loop whole part more₀ t₀ more t = 8 - t
+μ-loop whole part rest₀ t₀ rest t = 8 - t
 
 loop-again : tie.Need-loop-again Inv-loop μ-loop
 loop-again c =

@@ -1,5 +1,5 @@
 -- In a sound ledger what was released is T less R.
-use mathlib.Core.Path.{_≡_, sym, ap, _∙_}
+use mathlib.Core.Path.{_≡_, sym, _∙_}
 use mathlib.Core.List.{List}
 use Prim.Native.Nat.{ℕ}
 use Rattle.ledger.specs.declared.book.Ledger.{Ledger}

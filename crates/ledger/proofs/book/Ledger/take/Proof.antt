@@ -7,11 +7,10 @@ use borrow.Author.Needs.{needs}
 use denote.Ref.{now}
 use lib.ListN.{length, drop}
 use Rattle.output.proofs.Laws.{Says}
-use Rattle.ledger.specs.Stock.{after}
 use Rattle.ledger.specs.Refusal.{refusalOf}
 use Rattle.ledger.specs.Take.{acceptedOf, outputRecord, outputFields}
 use Rattle.ledger.specs.declared.answer.Outcome.{Outcome}
-use Rattle.ledger.proofs.Accepted.{Accepted, accepted, has-room, room-alike}
+use Rattle.ledger.proofs.Accepted.{Accepted, accepted, has-room}
 use Rattle.ledger.proofs.Step.{released-after, released-between}
 use Rattle.ledger.proofs.Take.{taken}
 use Rattle.ledger.proofs.Fits.{output-says}
