@@ -112,19 +112,17 @@ module _ (l : Ledger) (bytes : List ℕ) (a : Accepted l bytes) (t : ℕ) (h : t
       let D = entryAt (kindOf bytes) (climateOf bytes) t in
       omega (arith, a .ledger .at t h .parted, left-most (held l bytes t) D (entry-small (kindOf bytes) (climateOf bytes) t))
 
--- Inert waste, type 6, has a ceiling of 0, and so T, R, G and released of 0.
+-- Inert waste, type 6, has a ceiling of 0, and so T, R and G of 0.
 pub record NoneAt (l : Ledger) (bytes : List ℕ) (t : ℕ) : Type 0 where
   pub T : newBrought l bytes t ≡ 0
   pub R : newStock l bytes t ≡ 0
   pub G : release l bytes t ≡ 0
-  pub released : newReleased l bytes t ≡ 0
 
 pub no-carbon : (l : Ledger) (bytes : List ℕ) → Accepted l bytes → NoneAt l bytes 5
 unfolding ceilingOf carbonOf
 no-carbon l bytes a =
     let T : newBrought l bytes 5 ≡ 0 = omega (arith, new-within l bytes a 5 (omega arith)) in
-    let parts = new-parted l bytes a 5 (omega arith) in
-    record { T = T; R = omega (arith, parts); G = omega (arith, release-most l bytes a 5 (omega arith)); released = omega (arith, parts) }
+    record { T = T; R = omega (arith, new-parted l bytes a 5 (omega arith)); G = omega (arith, release-most l bytes a 5 (omega arith)) }
 
 -- A sound ledger that takes a record is sound again.
 pub stays-sound : (l : Ledger) (bytes : List ℕ) → Accepted l bytes → sound (after l bytes) ≡ true

@@ -51,13 +51,7 @@ module _ (l : Ledger) (bytes : List ℕ) (t : ℕ) where
 
 -- What place t then has.
 unfoldable pub decayedAt : Ledger → List ℕ → (t : ℕ) → Decayed
-decayedAt l bytes t =
-    record {
-      brought = newBrought l bytes t;
-      stock = newStock l bytes t;
-      release = release l bytes t;
-      released = newReleased l bytes t;
-    }
+decayedAt l bytes t = record { brought = newBrought l bytes t; stock = newStock l bytes t; release = release l bytes t }
 
 -- x0 = the eight releases added.
 unfoldable pub x0Of : Ledger → List ℕ → ℕ
@@ -65,13 +59,7 @@ x0Of l bytes = sumOf (release l bytes) 8
 
 -- What all of them have.
 unfoldable pub periodOfAll : Ledger → List ℕ → Period
-periodOfAll l bytes =
-    record {
-      brought = eight (newBrought l bytes);
-      stock = eight (newStock l bytes);
-      released = eight (newReleased l bytes);
-      x0 = x0Of l bytes;
-    }
+periodOfAll l bytes = record { brought = eight (newBrought l bytes); stock = eight (newStock l bytes); x0 = x0Of l bytes }
 
 -- n grows by one, kind and climate become the record's.
 unfoldable pub after : Ledger → List ℕ → Ledger

@@ -83,12 +83,10 @@ impl Ledger {
         let deposit = record::deposit(bytes, t as u8);
         let held = self.stock[t] + deposit;
         let left = left(held, entries[t]);
-        let release = held - left;
         Decayed {
             brought: self.brought[t] + deposit,
             stock: left,
-            release,
-            released: self.released[t] + release,
+            release: held - left,
         }
     }
 
@@ -108,7 +106,6 @@ impl Ledger {
         let h = self.decay(entries, bytes, 7);
         let early = a.release + b.release + c.release + d.release;
         let later = e.release + g.release + h.release;
-        let x0 = early + later;
         Period {
             brought: [
                 a.brought,
@@ -130,21 +127,12 @@ impl Ledger {
                 g.stock,
                 h.stock,
             ],
-            released: [
-                a.released,
-                b.released,
-                c.released,
-                d.released,
-                e.released,
-                0,
-                g.released,
-                h.released,
-            ],
-            x0,
+            x0: early + later,
         }
     }
 
-    // Enters an accepted record: answers the ledger after it, and writes its output record at the start of the output.
+    // Enters an accepted record: answers the ledger after it, and writes its output record at the start of the output. With the
+    // record's release added, what was released is again all that is gone of T.
     pub(crate) fn enter(self, entries: [u32; 8], bytes: &[u8], out: &mut [u8]) -> Ledger
         requires { ⌜ refusalOf self (now bytes) (length (now out)) ≡ 0 ⌝ }
         requires { ⌜ entries ≡ eight (entryAt (kindOf (now bytes)) (climateOf (now bytes))) ⌝ }
@@ -155,7 +143,7 @@ impl Ledger {
         let factors = Factors::of(bytes);
         let brought = all.brought;
         let stock = all.stock;
-        let released = all.released;
+        let released = less(brought, stock);
         let n = self.n + 1;
         let kind = record::kind(bytes);
         let climate = record::climate(bytes);

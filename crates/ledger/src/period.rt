@@ -5,19 +5,17 @@ ghost use lib.ListN.{getD};
 ghost use Rattle.numbers.specs.Eight.{eight};
 ghost use Rattle.ledger.specs.Stock.{leftOf};
 
-// One type after a record: the carbon brought in, the carbon left, the carbon that the record released, and all released so far.
+// One type after a record: the carbon brought in, the carbon left, and the carbon that the record released.
 pub struct Decayed {
     pub brought: u64,
     pub stock: u64,
     pub release: u64,
-    pub released: u64,
 }
 
-// The eight types after a record, and x0, its releases added.
+// The eight types after a record, and x0, their releases added.
 pub struct Period {
     pub brought: [u64; 8],
     pub stock: [u64; 8],
-    pub released: [u64; 8],
     pub x0: u64,
 }
 
