@@ -1,4 +1,5 @@
--- Each number is what its call ensures; the ledger after an accepted record is sound, so its totals are small.
+-- Each number is what its call ensures; the ledger after an accepted record is sound, so its totals are small, and what is gone of T is
+-- what was released.
 use mathlib.Core.Path.{_≡_, _∙_}
 use Prim.Native.Nat.{_-_, _%_, _^_, _≤_}
 use native.Mathlib.Omega.{arith}
