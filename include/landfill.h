@@ -33,6 +33,11 @@
  * equation (2) over the new. It gives no figure for a single month, since the old waste has none. TOOL04 has no equation
  * for the two together, so the report has to say how it was done. docs/METHOD.md has the reasons and another way.
  *
+ * Months of one year. In a monthly ledger the records that make n 1, 13, 25 and so on each begin a year; the eleven after
+ * each of them bring the same correction factor, site class and captured share f as it, else refusal 17. TOOL04 has one of
+ * each a year (paragraph 24 and equation (2)). OX, F, DOCf and GWP are free by month. The ledger counts the months, so that
+ * a file may begin in the middle of a year; landfill_repeat_year fills in what the next month has to repeat.
+ *
  * Tonnes. A mass is a whole number of kilograms. Tonnes in a float times 1000 often are not: 2.01 * 1000.0 is
  * 2009.9999999999998. Of the 100,000 values 0.01, 0.02, .. 1000.00 t, 1175 come out so (1.2 %), and landfill_cell refuses
  * them with 11. Round first:
@@ -137,47 +142,59 @@ enum {
     LANDFILL_LEDGER_AT_N = 0,         /* 2 bytes: n, the number of accepted records */
     LANDFILL_LEDGER_AT_KIND = 2,      /* 1 byte */
     LANDFILL_LEDGER_AT_CLIMATE = 3,   /* 1 byte */
-    LANDFILL_LEDGER_AT_ZERO = 4,      /* 4 bytes: zero */
+    LANDFILL_LEDGER_AT_FACTOR = 4,    /* 1 byte: correction factor of the year, percent */
+    LANDFILL_LEDGER_AT_CLASS = 5,     /* 1 byte: site class of the year */
+    LANDFILL_LEDGER_AT_CAPTURED = 6,  /* 2 bytes: captured f of the year, hundredths of a percent */
     LANDFILL_LEDGER_AT_BROUGHT = 8,   /* 64 bytes: T, the carbon that types 1 to 8 brought in, in mg, 8 bytes each */
     LANDFILL_LEDGER_AT_STOCK = 72,    /* 64 bytes: R, the carbon left of types 1 to 8, in mg, 8 bytes each */
     LANDFILL_LEDGER_AT_RELEASED = 136 /* 64 bytes: the carbon that types 1 to 8 have released so far, in mg, 8 bytes each */
 };
 
-/* What a type has released so far is the releases of all accepted records added. An image is refused with 3 exactly where
- * one of these holds:
- * - it is not 200 bytes, or bytes 4-7 are not all zero;
+/* What a type has released so far is the releases of all accepted records added. The year's factors, bytes 4-7, are those
+ * of the year's first month; they stay after its twelfth, until the next record sets them. A yearly ledger has zeros there,
+ * and so has a fresh one. An image is refused with 3 exactly where one of these holds:
+ * - it is not 200 bytes;
  * - n is over 1200;
  * - n is 0 and any other byte is not;
  * - n is above 0, and the kind is not 1 or 2, the climate not 1 to 4, some T over n * 10^9 * DOC * 100, some R over its T, or
  *   some released plus R not its T, the true sum being meant, which may be over 64 bits
- *   (DOC in hundredths of a percent: 4300, 4000, 1500, 2400, 2000, 0, 500, 900 for types 1 to 8).
+ *   (DOC in hundredths of a percent: 4300, 4000, 1500, 2400, 2000, 0, 500, 900 for types 1 to 8);
+ * - n is above 0 and the kind 2, and the year's factor is not 1 to 100, its class not 1 to 4, or its f over 10000;
+ * - n is above 0 and the kind 1, and bytes 4-7 are not all zero.
  * Nothing else is tested. An image that was changed within these limits is taken as it stands, so guard the file.
  *
  * An image of 136 bytes, as it was kept before ledgers held what was released, is no image any more: it is refused with 3,
  * as any bytes of another length. Whoever has one runs the site's file of records again, from a fresh ledger: the same
  * records give the same figures, and the new image. Do not fill it up with zeros: as soon as anything was released, that is
- * refused with 3 as well. */
+ * refused with 3 as well.
+ *
+ * An image of 200 bytes with zeros in bytes 4-7, as it was kept before ledgers remembered the year's factors, is sound for a
+ * yearly ledger, and for one with no records. A monthly one with records is refused with 3, since the year's factors are not
+ * in it. Whoever has one runs the site's file of records again, from a fresh ledger: the figures are the same. Where months
+ * of one year differ in a factor that they now share, the run stops at the first such month with 17; the year's own factors
+ * have to go into its records, and then into the report. */
 
-/* Refusals. A record is tested in the order of 1 to 9, and a total with its samples in the order of 14 to 16; the first that
- * holds is the answer. */
+/* Refusals. A record is tested in the order of 1 to 8, then 17, then 9, and a total with its samples in the order of 14 to
+ * 16; the first that holds is the answer. */
 enum {
-    LANDFILL_ACCEPTED = 0,         /* not refused */
-    LANDFILL_NOT_48_BYTES = 1,     /* the record is not 48 bytes */
-    LANDFILL_NO_ROOM = 2,          /* an output is too short */
-    LANDFILL_UNSOUND = 3,          /* the ledger image fails a test of the list above */
-    LANDFILL_FULL = 4,             /* the ledger has 1200 records */
-    LANDFILL_NOT_A_CODE = 5,       /* kind, climate or site class is not a code, or bytes 12-15 are not all zero */
-    LANDFILL_OUT_OF_TURN = 6,      /* the period is not n + 1 */
-    LANDFILL_OTHER_SERIES = 7,     /* kind or climate differs from the ledger's */
-    LANDFILL_OUT_OF_RANGE = 8,     /* correction factor, OX, F, DOCf, GWP or f is outside its range */
-    LANDFILL_MASS_TOO_LARGE = 9,   /* a mass is over 1,000,000,000 kg */
-    LANDFILL_CELL_EMPTY = 10,      /* the cell is empty */
-    LANDFILL_CELL_NOT_WHOLE = 11,  /* the cell is not a whole number: a fraction, infinite or not a number */
-    LANDFILL_CELL_OUTSIDE = 12,    /* the cell is below 0 or above 1,000,000,000 */
-    LANDFILL_POINT_TOO_LARGE = 13, /* figure and bound add up to more than 9,007,199,254,740,992 */
-    LANDFILL_TOTAL_TOO_LARGE = 14, /* the total is over 1,000,000,000 kg */
-    LANDFILL_NOT_THE_SAMPLES = 15, /* the kind is not 1 or 2, or the samples are not whole, or not as many as it asks */
-    LANDFILL_SAMPLE_NOT_WHOLE = 16 /* the fractions of a sample do not add up to 10000 */
+    LANDFILL_ACCEPTED = 0,          /* not refused */
+    LANDFILL_NOT_48_BYTES = 1,      /* the record is not 48 bytes */
+    LANDFILL_NO_ROOM = 2,           /* an output is too short */
+    LANDFILL_UNSOUND = 3,           /* the ledger image fails a test of the list above */
+    LANDFILL_FULL = 4,              /* the ledger has 1200 records */
+    LANDFILL_NOT_A_CODE = 5,        /* kind, climate or site class is not a code, or bytes 12-15 are not all zero */
+    LANDFILL_OUT_OF_TURN = 6,       /* the period is not n + 1 */
+    LANDFILL_OTHER_SERIES = 7,      /* kind or climate differs from the ledger's */
+    LANDFILL_OUT_OF_RANGE = 8,      /* correction factor, OX, F, DOCf, GWP or f is outside its range */
+    LANDFILL_MASS_TOO_LARGE = 9,    /* a mass is over 1,000,000,000 kg */
+    LANDFILL_CELL_EMPTY = 10,       /* the cell is empty */
+    LANDFILL_CELL_NOT_WHOLE = 11,   /* the cell is not a whole number: a fraction, infinite or not a number */
+    LANDFILL_CELL_OUTSIDE = 12,     /* the cell is below 0 or above 1,000,000,000 */
+    LANDFILL_POINT_TOO_LARGE = 13,  /* figure and bound add up to more than 9,007,199,254,740,992 */
+    LANDFILL_TOTAL_TOO_LARGE = 14,  /* the total is over 1,000,000,000 kg */
+    LANDFILL_NOT_THE_SAMPLES = 15,  /* the kind is not 1 or 2, or the samples are not whole, or not as many as it asks */
+    LANDFILL_SAMPLE_NOT_WHOLE = 16, /* the fractions of a sample do not add up to 10000 */
+    LANDFILL_NOT_THE_YEARS = 17     /* correction factor, site class or f differs from that of the year's first month */
 };
 
 /* Makes the image a fresh ledger, all zero, and answers 0.
@@ -305,6 +322,19 @@ static inline void landfill_set_masses(struct landfill_record *fields, const uin
     for (type = 1; type <= LANDFILL_TYPES; type++) fields->mass[type] = masses[type - 1];
 }
 
+/* Puts what the next record of a ledger image has to repeat into the fields of a record, and answers 1: the correction factor,
+ * site class and captured share of its year. Answers 0, and the fields stay, where the next record brings its own: it begins
+ * a year, or the ledger is yearly. It looks at nothing else: landfill_totals says whether the image is sound. */
+static inline int landfill_repeat_year(struct landfill_record *fields, const uint8_t *ledger)
+{
+    if (ledger[LANDFILL_LEDGER_AT_KIND] != LANDFILL_MONTHLY || landfill_get(ledger + LANDFILL_LEDGER_AT_N, 2) % 12 == 0)
+        return 0;
+    fields->factor = ledger[LANDFILL_LEDGER_AT_FACTOR];
+    fields->site_class = ledger[LANDFILL_LEDGER_AT_CLASS];
+    fields->captured = (uint32_t)landfill_get(ledger + LANDFILL_LEDGER_AT_CAPTURED, 2);
+    return 1;
+}
+
 /* The fields of an output record. */
 struct landfill_output {
     uint32_t period, kind, climate;
@@ -371,7 +401,8 @@ static inline const char *landfill_refusal_text(unsigned refusal)
         "Figure and bound are too large to be drawn exactly.",
         "The total is over 1,000,000,000 kg.",
         "The kind is not a code, or the samples are not 12 to 400 whole ones for a year or 3 for a month.",
-        "The fractions of a sample do not add up to 100 percent."
+        "The fractions of a sample do not add up to 100 percent.",
+        "The correction factor, the site class or the captured share is not that of the year's first month."
     };
     return refusal < sizeof texts / sizeof texts[0] ? texts[refusal] : "No refusal has this number.";
 }
