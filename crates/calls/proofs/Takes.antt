@@ -5,7 +5,7 @@ use mathlib.Core.List.{List, [], _∷_, _++_, append-nil}
 use Prim.Native.Nat.{ℕ, _≤_, _<_}
 use native.Mathlib.Decide.{ℕ-discrete}
 use native.Mathlib.Omega.{arith}
-use borrow.Author.Tests.{eq-eqb, ne-eqb}
+use borrow.Author.Tests.{eq-eqb, ne-eqb, eqb-true}
 use lib.Dec.{eqb, ltb}
 use lib.ListN.{length, take, drop, take-append-drop, drop-of-length-le}
 use lib.Seq.{take-all, length-take-le}
@@ -17,17 +17,17 @@ use Rattle.ledger.specs.declared.answer.Answer.{Answer}
 use Rattle.ledger.proofs.Accepted.{accepted, has-room}
 use Rattle.ledger.proofs.Take.{taken, take-refusal, refused-writes-nothing}
 use Rattle.ledger.proofs.History.{run-stops, run-ends}
-use Rattle.image.specs.Image.{imageBytes, isImage, noLedger, ledgerOf, imageOf, imaged}
-use Rattle.image.proofs.Laws.{image-size, image-fills}
+use Rattle.image.specs.Image.{imageBytes, noLedger, ledgerOf, imageOf, imaged}
+use Rattle.image.proofs.Laws.{image-fills}
 use Rattle.calls.specs.Calls.{answerBytes, roomOf, takeHere, takeImage, takeOut, runImage}
 
 -- A record is accepted only where the bytes are an image.
 accepted-image : (image bytes : List ℕ) (room : ℕ) → refusalOf (ledgerOf image) bytes room ≡ 0 → length image ≡ imageBytes
 unfolding ledgerOf noLedger
-accepted-image image bytes room e = by (isImage image) refl
+accepted-image image bytes room e = by (eqb (length image) imageBytes) refl
   where
-    by : (b : Bool) → isImage image ≡ b → length image ≡ imageBytes
-    by true i = image-size image i
+    by : (b : Bool) → eqb (length image) imageBytes ≡ b → length image ≡ imageBytes
+    by true i = eqb-true (length image) imageBytes i
     by false i = absurd (omega (arith, accepted noLedger bytes room (simp i at e) .more))
 
 pub when-zero : (q : ℕ) (x y : List ℕ) → q ≡ 0 → cond (eqb q 0) x y ≡ x

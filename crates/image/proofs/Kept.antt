@@ -5,12 +5,15 @@ use mathlib.Core.List.{List, [], _∷_}
 use Prim.Native.Nat.{ℕ, _+_, _-_, _*_, _^_, _<_}
 use native.Mathlib.Decide.{ℕ-discrete}
 use native.Mathlib.Omega.{arith}
-use lib.Dec.{lit<}
+use lib.Dec.{eqb, lit<}
+use lib.ListN.{length}
 use Rattle.numbers.specs.Bytes.{numberAt, bytesOf}
 use Rattle.numbers.specs.Eight.{eight}
 use Rattle.numbers.proofs.Bytes.{read-back}
 use Rattle.numbers.proofs.Eight.{eight-at}
 use Rattle.record.specs.Fields.{recordBytes}
+use Rattle.year.specs.Year.{soundYear, noYear}
+use Rattle.year.proofs.Laws.{captured-most}
 use Rattle.ledger.specs.Stock.{fresh, broughtAt, stockAt, releasedAt, after}
 use Rattle.ledger.specs.Refusal.{sound, allZero, emptyAt, refusalOf}
 use Rattle.ledger.specs.Take.{acceptedOf, takeOf}
@@ -20,7 +23,7 @@ use Rattle.ledger.proofs.Sound.{sound-is}
 use Rattle.ledger.proofs.Accepted.{accepted, accepted-sound}
 use Rattle.ledger.proofs.Take.{taken, refused-keeps}
 use Rattle.ledger.proofs.History.{run-goes-on, run-stops, run-ends}
-use Rattle.image.specs.Image.{imageOf, saidBy, isImage, noLedger, ledgerOf, Kept}
+use Rattle.image.specs.Image.{imageBytes, imageOf, saidBy, noLedger, ledgerOf, Kept}
 
 -- Eight numbers are read back from their bytes.
 row-back : (f : ℕ → ℕ) → ((t : ℕ) → t < 8 → f t < 2 ^ 64) → eight (λ t. numberAt 8 (bytesOf 8 (f t)) 0) ≡ eight f
@@ -48,12 +51,16 @@ module _ (l : Ledger) (k : Kept l) where
   released-fits : (t : ℕ) → t < 8 → releasedAt l t < 2 ^ 64
   released-fits t h = let w = sound-is l (k .is-sound) .at t h in omega (arith, w .parted, w .small)
 
+  captured-fits : l .year .captured < 2 ^ 16
+  captured-fits = omega (arith, captured-most (l .n) (l .kind) (l .year) (sound-is l (k .is-sound) .year))
+
   said-again : saidBy (imageOf l) ≡ l
   unfolding imageOf saidBy
   said-again = λ i. record {
     n = read-back 2 (l .n) n-fits i;
     kind = l .kind;
     climate = l .climate;
+    year = record { factor = l .year .factor; captured = read-back 2 (l .year .captured) captured-fits i; class = l .year .class };
     brought = (row-back (broughtAt l) T-fits ∙ sym (k .brought)) i;
     stock = (row-back (stockAt l) R-fits ∙ sym (k .stock)) i;
     released = (row-back (releasedAt l) released-fits ∙ sym (k .released)) i;
@@ -64,25 +71,21 @@ module _ (l : Ledger) (k : Kept l) where
   unfolding saidBy
   released-stands t h = sym (eight-at (λ u. numberAt 8 (imageOf l) (136 + 8 * u)) t h) ∙ ap (λ (m : Ledger). releasedAt m t) said-again
 
-  image-is-one : isImage (imageOf l) ≡ true
-  unfolding isImage imageOf
-  image-is-one = refl
-
   -- The image of a ledger says it again.
   pub image-back : ledgerOf (imageOf l) ≡ l
-  unfolding ledgerOf
-  image-back = rw image-is-one said-again
+  unfolding ledgerOf imageOf
+  image-back = said-again
 
 pub fresh-kept : Kept fresh
-unfolding fresh sound allZero emptyAt
+unfolding fresh sound allZero emptyAt soundYear noYear
 fresh-kept = record { is-sound = refl; brought = refl; stock = refl; released = refl }
 
 -- A sound ledger that bytes say can be kept.
 pub said-kept : (image : List ℕ) → sound (ledgerOf image) ≡ true → Kept (ledgerOf image)
 unfolding ledgerOf saidBy noLedger
-said-kept image e = by (isImage image) refl
+said-kept image e = by (eqb (length image) imageBytes) refl
   where
-    by : (b : Bool) → isImage image ≡ b → Kept (ledgerOf image)
+    by : (b : Bool) → eqb (length image) imageBytes ≡ b → Kept (ledgerOf image)
     by true i = simp i (record { is-sound = simp i at e; brought = refl; stock = refl; released = refl })
     by false i = simp i (record { is-sound = simp i at e; brought = refl; stock = refl; released = refl })
 

@@ -1,13 +1,13 @@
 -- The ledger as the 200 bytes that pass between the package and the library.
 use mathlib.Core.Path.{_≡_}
-use mathlib.Core.Bool.{Bool, true, cond, _&&_}
-use mathlib.Core.List.{List, _++_}
+use mathlib.Core.Bool.{true, cond}
+use mathlib.Core.List.{List, [], _∷_, _++_}
 use Prim.Native.Nat.{ℕ, _+_, _*_}
 use lib.Dec.{eqb}
 use lib.ListN.{length, getD}
-use Rattle.numbers.specs.Bytes.{numberAt, rowOf}
+use Rattle.numbers.specs.Bytes.{numberAt, bytesOf, rowOf}
 use Rattle.numbers.specs.Eight.{eight}
-use Rattle.output.specs.Output.{headOf}
+use Rattle.year.specs.Year.{noYear}
 use Rattle.ledger.specs.Stock.{broughtAt, stockAt, releasedAt}
 use Rattle.ledger.specs.Refusal.{sound}
 use Rattle.ledger.specs.declared.book.Ledger.{Ledger}
@@ -15,9 +15,14 @@ use Rattle.ledger.specs.declared.book.Ledger.{Ledger}
 abbrev pub imageBytes : ℕ
 imageBytes = 200
 
--- n in 2 bytes, kind, climate, four zero bytes, then T, R and released so far of types 1 to 8 in 8 bytes each.
+-- n in 2 bytes, kind, climate, and of the year that is remembered the correction factor, the class, and f in 2 bytes;
+abbrev pub frontOf : Ledger → List ℕ
+frontOf l =
+    bytesOf 2 (l .n) ++ (l .kind ∷ l .climate ∷ l .year .factor ∷ l .year .class ∷ []) ++ bytesOf 2 (l .year .captured)
+
+-- then T, R and released so far of types 1 to 8 in 8 bytes each.
 unfoldable pub imageOf : Ledger → List ℕ
-imageOf l = headOf (l .n) (l .kind) (l .climate) ++ rowOf (broughtAt l) 8 ++ rowOf (stockAt l) 8 ++ rowOf (releasedAt l) 8
+imageOf l = frontOf l ++ rowOf (broughtAt l) 8 ++ rowOf (stockAt l) 8 ++ rowOf (releasedAt l) 8
 
 -- The image is written over 200 bytes; any other buffer keeps its bytes.
 unfoldable pub imaged : Ledger → List ℕ → List ℕ
@@ -30,21 +35,19 @@ saidBy image =
       n = numberAt 2 image 0;
       kind = getD image 2 0;
       climate = getD image 3 0;
+      year = record { factor = getD image 4 0; captured = numberAt 2 image 6; class = getD image 5 0 };
       brought = eight (λ t. numberAt 8 image (8 + 8 * t));
       stock = eight (λ t. numberAt 8 image (72 + 8 * t));
       released = eight (λ t. numberAt 8 image (136 + 8 * t));
     }
 
--- An image has 200 bytes, and its four zero bytes are zero.
-unfoldable pub isImage : List ℕ → Bool
-isImage image = eqb (length image) imageBytes && eqb (numberAt 4 image 4) 0
-
--- Bytes that are no image count as an unsound ledger, one with too many records.
+-- Bytes of another length are no image, and count as an unsound ledger, one with too many records.
 unfoldable pub noLedger : Ledger
-noLedger = record { n = 65535; kind = 0; climate = 0; brought = eight (λ t. 0); stock = eight (λ t. 0); released = eight (λ t. 0) }
+noLedger =
+    record { n = 65535; kind = 0; climate = 0; year = noYear; brought = eight (λ t. 0); stock = eight (λ t. 0); released = eight (λ t. 0) }
 
 unfoldable pub ledgerOf : List ℕ → Ledger
-ledgerOf image = cond (isImage image) (saidBy image) noLedger
+ledgerOf image = cond (eqb (length image) imageBytes) (saidBy image) noLedger
 
 -- A ledger that can be kept in an image: sound, with eight numbers for T, for R and for what was released.
 pub record Kept (l : Ledger) : Type 0 where

@@ -1,39 +1,51 @@
 // The ledger as 200 bytes, for whoever keeps it between calls or hands it over from another language: read from an image, and
 // written as one. The entries for C and the program that runs test vectors call it.
 ghost use mathlib.Core.Path.{_≡_};
-ghost use Rattle.image.specs.Image.{isImage, ledgerOf, imaged};
+ghost use Prim.Native.Nat.{_≤_};
+ghost use lib.ListN.{length};
+ghost use lib.Seq.{sets};
+ghost use Rattle.image.specs.Image.{frontOf, ledgerOf, imaged};
 use ledger::Ledger;
+use year::Year;
 
 // The bytes of an image.
 pub const BYTES: usize = 200;
 
-// Tells whether bytes are an image: 200 of them, and the four zero bytes zero.
-fn is_image(bytes: &[u8]) -> bool
-    ensures { λ r. ⌜ r ≡ isImage (now (bytes .entry)) ⌝ }
-{
-    if bytes.len() != BYTES {
-        return false;
-    }
-    numbers::read_u32(bytes, 4) == 0
-}
-
-// Answers the ledger of an image, and an unsound one for bytes that are no image.
+// Answers the ledger of an image, and an unsound one for bytes of another length.
 pub fn read(bytes: &[u8]) -> Ledger
     ensures { λ r. ⌜ r ≡ ledgerOf (now (bytes .entry)) ⌝ }
 {
-    if is_image(bytes) {
-        return Ledger {
-            n: numbers::read_u16(bytes, 0) as u16,
-            kind: bytes[2],
-            climate: bytes[3],
-            brought: numbers::read_eight(bytes, 8),
-            stock: numbers::read_eight(bytes, 72),
-            released: numbers::read_eight(bytes, 136),
-        };
+    if bytes.len() != BYTES {
+        let mut none = Ledger::fresh();
+        none.n = 65535;
+        return none;
     }
-    let mut none = Ledger::fresh();
-    none.n = 65535;
-    none
+    Ledger {
+        n: numbers::read_u16(bytes, 0) as u16,
+        kind: bytes[2],
+        climate: bytes[3],
+        year: Year {
+            factor: bytes[4],
+            captured: numbers::read_u16(bytes, 6) as u16,
+            class: bytes[5],
+        },
+        brought: numbers::read_eight(bytes, 8),
+        stock: numbers::read_eight(bytes, 72),
+        released: numbers::read_eight(bytes, 136),
+    }
+}
+
+// Writes the first 8 bytes: n, kind, climate and the year.
+fn write_front(out: &mut [u8], ledger: Ledger)
+    requires { ⌜ 8 ≤ length (now out) ⌝ }
+    ensures { λ _. ⌜ now (out .exit) ≡ sets (now (out .entry)) 0 (frontOf ledger) ⌝ }
+{
+    numbers::write_u16(out, 0, ledger.n as u64);
+    out[2] = ledger.kind;
+    out[3] = ledger.climate;
+    out[4] = ledger.year.factor;
+    out[5] = ledger.year.class;
+    numbers::write_u16(out, 6, ledger.year.captured as u64);
 }
 
 // Writes the image of a ledger. A buffer that is not 200 bytes keeps its values.
@@ -46,7 +58,7 @@ pub fn write(out: &mut [u8], ledger: Ledger)
     let brought = ledger.brought;
     let stock = ledger.stock;
     let released = ledger.released;
-    output::write_head(out, ledger.n, ledger.kind, ledger.climate);
+    write_front(out, ledger);
     numbers::write_eight(out, 8, brought);
     numbers::write_eight(out, 72, stock);
     numbers::write_eight(out, 136, released);

@@ -13,12 +13,14 @@ use Rattle.numbers.specs.Fault.{firstOf, ahead}
 use Rattle.numbers.proofs.Eight.{both-true, all-true, every-at, eight-at}
 use Rattle.numbers.proofs.Fault.{isBad, clear, parted}
 use Rattle.decay.specs.Series.{isKind}
-use Rattle.waste.specs.Waste.{carbonOf, isClimate}
-use Rattle.record.specs.Fields.{recordBytes, periodOf, kindOf, climateOf, factorsOf, depositOf}
+use Rattle.waste.specs.Waste.{carbonOf, isClimate, isClass}
+use Rattle.record.specs.Fields.{recordBytes, periodOf, kindOf, climateOf, classOf, factorsOf, depositOf}
 use Rattle.record.specs.Ranges.{codes, coded, inRange, light}
 use Rattle.record.proofs.Laws.{mass-light}
 use Rattle.stock.specs.Stock.{mostRecords, mostBrought, entryAt, ceilingOf}
 use Rattle.stock.proofs.Laws.{entry-small}
+use Rattle.year.specs.Year.{shares}
+use Rattle.year.proofs.Laws.{year-stays}
 use Rattle.ledger.specs.Stock.{newBrought, held, newStock, release, newReleased, after}
 use Rattle.refusal.specs.Refusal.{continues, faultsOf}
 use Rattle.ledger.specs.Refusal.{sound, refusalOf}
@@ -30,11 +32,11 @@ use Rattle.ledger.proofs.Step.{left-most}
 module _ (l : Ledger) (bytes : List ℕ) (room : ℕ) (e : refusalOf l bytes room ≡ 0) where
   -- The fault with a number is not there.
   abbrev pub Clear : ℕ → Type 0
-  Clear k = isBad k (faultsOf (sound l) (l .n) (l .kind) (l .climate) bytes room) ≡ false
+  Clear k = isBad k (faultsOf (sound l) (l .n) (l .kind) (l .climate) (l .year) bytes room) ≡ false
 
   none : (k : ℕ) → Clear k
   unfolding refusalOf faultsOf
-  none k = clear k (faultsOf (sound l) (l .n) (l .kind) (l .climate) bytes room) refl e
+  none k = clear k (faultsOf (sound l) (l .n) (l .kind) (l .climate) (l .year) bytes room) refl e
 
   pub was-sound : sound l ≡ true
   unfolding faultsOf
@@ -52,9 +54,11 @@ module _ (l : Ledger) (bytes : List ℕ) where
     pub more : l .n < mostRecords
     pub kind : isKind (kindOf bytes) ≡ true
     pub climate : isClimate (climateOf bytes) ≡ true
+    pub class : isClass (classOf bytes) ≡ true
     pub period : periodOf bytes ≡ l .n + 1
     pub same : (l .n ≡ 0 → ⊥) → (kindOf bytes ≡ l .kind) × (climateOf bytes ≡ l .climate)
     pub ranges : inRange (factorsOf bytes) ≡ true
+    pub shared : shares (l .n) (l .year) bytes ≡ true
     pub light-each : (t : ℕ) → t < 8 → light bytes t ≡ true
 
   pub accepted : (room : ℕ) → refusalOf l bytes room ≡ 0 → Accepted
@@ -69,6 +73,7 @@ module _ (l : Ledger) (bytes : List ℕ) where
         more = omega (arith, full, s .few);
         kind = code .0;
         climate = code .1 .0;
+        class = code .1 .1 .0;
         period = eqb-true (periodOf bytes) (l .n + 1) (not-false (eqb (periodOf bytes) (l .n + 1)) (none l bytes room e 6));
         same = λ some.
             let both : continues (l .kind) (l .climate) bytes ≡ true
@@ -76,21 +81,22 @@ module _ (l : Ledger) (bytes : List ℕ) where
             let q = both-true (eqb (kindOf bytes) (l .kind)) (eqb (climateOf bytes) (l .climate)) both in
             (eqb-true (kindOf bytes) (l .kind) (q .0), eqb-true (climateOf bytes) (l .climate) (q .1));
         ranges = not-false (inRange (factorsOf bytes)) (none l bytes room e 8);
+        shared = not-false (shares (l .n) (l .year) bytes) (none l bytes room e 17);
         light-each = λ t h. every-at (light bytes) 8 t h (not-false (everyOf (light bytes) 8) (none l bytes room e 9));
       }
 
 -- The refusal is what everything ahead of the masses decides, and else what the masses decide.
 module _ (l : Ledger) (bytes : List ℕ) (room : ℕ) where
   abbrev pub early : Bool → ℕ
-  early good = firstOf (ahead 9 (faultsOf good (l .n) (l .kind) (l .climate) bytes room))
+  early good = firstOf (ahead 9 (faultsOf good (l .n) (l .kind) (l .climate) (l .year) bytes room))
 
   pub refused-early : (early (sound l) ≡ 0 → ⊥) → refusalOf l bytes room ≡ early (sound l)
   unfolding refusalOf faultsOf
-  refused-early h = parted 9 (faultsOf (sound l) (l .n) (l .kind) (l .climate) bytes room) refl .0 h
+  refused-early h = parted 9 (faultsOf (sound l) (l .n) (l .kind) (l .climate) (l .year) bytes room) refl .0 h
 
   pub refused-late : early (sound l) ≡ 0 → refusalOf l bytes room ≡ cond (not (everyOf (light bytes) 8)) 9 0
   unfolding refusalOf faultsOf
-  refused-late h = parted 9 (faultsOf (sound l) (l .n) (l .kind) (l .climate) bytes room) refl .1 h
+  refused-late h = parted 9 (faultsOf (sound l) (l .n) (l .kind) (l .climate) (l .year) bytes room) refl .1 h
 
 -- Room for an output record is all the room that matters.
 pub room-alike : (l : Ledger) (bytes : List ℕ) (room more : ℕ) → recordBytes ≤ room → recordBytes ≤ more → refusalOf l bytes room ≡ refusalOf l bytes more
@@ -129,6 +135,7 @@ pub stays-sound : (l : Ledger) (bytes : List ℕ) → Accepted l bytes → sound
 unfolding after
 stays-sound l bytes a =
     is-sound (after l bytes) (omega (arith, a .more)) (λ z. omega arith) (simp (a .kind, a .climate))
+    (year-stays (l .n) (l .year) bytes (l .kind) (a .ledger .year) (λ some. a .same some .0) (a .ranges) (a .class))
     (λ t h. rw (eight-at (newBrought l bytes) t h, eight-at (newStock l bytes) t h, eight-at (newReleased l bytes) t h) (new-within l bytes a t h, new-parted l bytes a t h))
 
 -- The ledger of an accepted answer is sound.

@@ -1,5 +1,5 @@
 -- What a sound ledger holds of each type, and that a ledger of which all that holds is sound.
-use mathlib.Core.Path.{_≡_, refl, sym, _∙_}
+use mathlib.Core.Path.{_≡_, refl, sym, ap, _∙_}
 use mathlib.Core.Bool.{Bool, true, false, cond, _&&_, and-false}
 use Prim.Native.Nat.{ℕ, zero, suc, _+_, _-_, _≤_, _<_}
 use native.Mathlib.Decide.{ℕ-discrete}
@@ -13,6 +13,7 @@ use Rattle.decay.specs.Series.{isKind}
 use Rattle.waste.specs.Waste.{isClimate}
 use Rattle.stock.specs.Stock.{mostRecords, mostBrought, ceilingOf, withinOf}
 use Rattle.stock.proofs.Laws.{ceiling-most}
+use Rattle.year.specs.Year.{soundYear}
 use Rattle.ledger.specs.Stock.{broughtAt, stockAt, releasedAt}
 use Rattle.ledger.specs.Refusal.{sound, blank, inCode, allZero, inOrder, emptyAt, withinAt}
 use Rattle.ledger.specs.declared.book.Ledger.{Ledger}
@@ -31,11 +32,15 @@ pub record Sound (l : Ledger) : Type 0 where
   pub few : l .n ≤ mostRecords
   pub at : (t : ℕ) → t < 8 → WithinCeiling l t
   pub coded : (l .n ≡ 0 → ⊥) → (isKind (l .kind) ≡ true) × (isClimate (l .climate) ≡ true)
+  pub year : soundYear (l .n) (l .kind) (l .year) ≡ true
+
+abbrev YearSound : Ledger → Type 0
+YearSound l = soundYear (l .n) (l .kind) (l .year) ≡ true
 
 -- a ledger with no records
-empty : (l : Ledger) → l .n ≤ mostRecords → l .n ≡ 0 → allZero l ≡ true → Sound l
+empty : (l : Ledger) → l .n ≤ mostRecords → l .n ≡ 0 → allZero l ≡ true → YearSound l → Sound l
 unfolding allZero emptyAt
-empty l few z e =
+empty l few z e year =
     let p = both-true (blank l) (everyOf (emptyAt l) 8) e in
     let at : (t : ℕ) → t < 8 → WithinCeiling l t
     = λ t h. let q = three-true (eqb (broughtAt l t) 0) (eqb (stockAt l t) 0) (eqb (releasedAt l t) 0) (every-at (emptyAt l) 8 t h (p .1)) in
@@ -45,12 +50,13 @@ empty l few z e =
       few = few;
       at = at;
       coded = λ n. absurd (n z);
+      year = year;
     }
 
 -- a ledger with some
-ordered : (l : Ledger) → l .n ≤ mostRecords → inOrder l ≡ true → Sound l
+ordered : (l : Ledger) → l .n ≤ mostRecords → inOrder l ≡ true → YearSound l → Sound l
 unfolding inOrder withinAt withinOf
-ordered l few e =
+ordered l few e year =
     let p = both-true (inCode l) (everyOf (withinAt l) 8) e in
     let at : (t : ℕ) → t < 8 → WithinCeiling l t
     = λ t h. let q = three-true (leb (broughtAt l t) (ceilingOf (l .n) t)) (leb (stockAt l t) (broughtAt l t)) (eqb (releasedAt l t + stockAt l t) (broughtAt l t)) (every-at (withinAt l) 8 t h (p .1)) in
@@ -59,16 +65,17 @@ ordered l few e =
       few = few;
       at = at;
       coded = λ n. both-true (isKind (l .kind)) (isClimate (l .climate)) (p .0);
+      year = year;
     }
 
 pub sound-is : (l : Ledger) → sound l ≡ true → Sound l
 unfolding sound
 sound-is l e =
-    let p = both-true (leb (l .n) mostRecords) (cond (eqb (l .n) 0) (allZero l) (inOrder l)) e in
+    let p = three-true (leb (l .n) mostRecords) (cond (eqb (l .n) 0) (allZero l) (inOrder l)) (soundYear (l .n) (l .kind) (l .year)) e in
     let few : l .n ≤ mostRecords = leb-true (l .n) mostRecords (p .0) in
     elim (ℕ-discrete (l .n) 0) [
-      | yes z ↦ empty l few z (simp (eq-eqb (l .n) 0 z) at (p .1))
-      | no z ↦ ordered l few (simp (ne-eqb (l .n) 0 z) at (p .1))
+      | yes z ↦ empty l few z (simp (eq-eqb (l .n) 0 z) at (p .1 .0)) (p .1 .1)
+      | no z ↦ ordered l few (simp (ne-eqb (l .n) 0 z) at (p .1 .0)) (p .1 .1)
     ]
 
 -- What is gone of T is what was released.
@@ -77,17 +84,17 @@ gone-is l e =
     eight-same (λ t. broughtAt l t - stockAt l t) (releasedAt l) (λ t h. omega (arith, sound-is l e .at t h .parted))
 
 -- A ledger with records, in order, is sound.
-pub is-sound : (l : Ledger) → l .n ≤ mostRecords → (l .n ≡ 0 → ⊥) → inCode l ≡ true
+pub is-sound : (l : Ledger) → l .n ≤ mostRecords → (l .n ≡ 0 → ⊥) → inCode l ≡ true → YearSound l
     → ((t : ℕ) → t < 8 → (broughtAt l t ≤ ceilingOf (l .n) t) × (releasedAt l t + stockAt l t ≡ broughtAt l t)) → sound l ≡ true
 unfolding sound inOrder withinAt withinOf
-is-sound l few some code at =
+is-sound l few some code year at =
     let every : everyOf (withinAt l) 8 ≡ true
     = every-each (withinAt l) 8 (λ t h. let p = at t h in simp (
       le-leb (broughtAt l t) (ceilingOf (l .n) t) (p .0),
       le-leb (stockAt l t) (broughtAt l t) (omega (arith, p .1)),
       eq-eqb (releasedAt l t + stockAt l t) (broughtAt l t) (p .1),
     )) in
-    simp (le-leb (l .n) mostRecords few, ne-eqb (l .n) 0 some, code, every)
+    simp (le-leb (l .n) mostRecords few, ne-eqb (l .n) 0 some, code, every, year)
 
 -- With no records T within a ceiling of 0 is 0, and so are its parts: one test over the types serves every sound ledger.
 none-within : (T R released : ℕ) → (leb T 0 && leb R T && eqb (released + R) T) ≡ (eqb T 0 && eqb R 0 && eqb released 0)
@@ -104,16 +111,17 @@ module _ (l : Ledger) where
   codes = cond (eqb (l .n) 0) (blank l) (inCode l)
 
   -- the codes, and what every type may have, whatever n is
-  with-codes : sound l ≡ (leb (l .n) mostRecords && (codes && everyOf (withinAt l) 8))
-  unfolding sound allZero inOrder
+  with-codes : (leb (l .n) mostRecords && cond (eqb (l .n) 0) (allZero l) (inOrder l)) ≡ (leb (l .n) mostRecords && (codes && everyOf (withinAt l) 8))
+  unfolding allZero inOrder
   with-codes =
       elim (ℕ-discrete (l .n) 0) [
         | yes z ↦ simp (eq-eqb (l .n) 0 z, every-same (withinAt l) (emptyAt l) 8 (λ t h. same l t z))
         | no z ↦ simp (ne-eqb (l .n) 0 z)
       ]
 
-  pub sound-tests : sound l ≡ (codes && (leb (l .n) mostRecords && everyOf (withinAt l) 8))
-  sound-tests = with-codes ∙ turned (leb (l .n) mostRecords) codes (everyOf (withinAt l) 8)
+  pub sound-tests : sound l ≡ (codes && (leb (l .n) mostRecords && everyOf (withinAt l) 8) && soundYear (l .n) (l .kind) (l .year))
+  unfolding sound
+  sound-tests = ap (λ (b : Bool). b && soundYear (l .n) (l .kind) (l .year)) (with-codes ∙ turned (leb (l .n) mostRecords) codes (everyOf (withinAt l) 8))
     where
       turned : (a b c : Bool) → (a && (b && c)) ≡ (b && (a && c))
       turned true b c = refl

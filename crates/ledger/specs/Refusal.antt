@@ -1,4 +1,4 @@
--- Document 01, refusal 3, with what request b of document 02 adds: when a ledger is sound; and the refusal of a record.
+-- Document 01, refusal 3, with what requests b and c of document 02 add: when a ledger is sound; and the refusal of a record.
 use mathlib.Core.Bool.{Bool, cond, _&&_}
 use mathlib.Core.List.{List}
 use Prim.Native.Nat.{ℕ}
@@ -8,6 +8,7 @@ use Rattle.numbers.specs.Fault.{firstOf}
 use Rattle.decay.specs.Series.{isKind}
 use Rattle.waste.specs.Waste.{isClimate}
 use Rattle.stock.specs.Stock.{mostRecords, withinOf}
+use Rattle.year.specs.Year.{soundYear}
 use Rattle.refusal.specs.Refusal.{faultsOf}
 use Rattle.ledger.specs.Stock.{broughtAt, stockAt, releasedAt}
 use Rattle.ledger.specs.declared.book.Ledger.{Ledger}
@@ -32,9 +33,10 @@ inCode l = isKind (l .kind) && isClimate (l .climate)
 unfoldable pub inOrder : Ledger → Bool
 inOrder l = inCode l && everyOf (withinAt l) 8
 
+-- What is remembered is as request c has it.
 unfoldable pub sound : Ledger → Bool
-sound l = leb (l .n) mostRecords && cond (eqb (l .n) 0) (allZero l) (inOrder l)
+sound l = leb (l .n) mostRecords && cond (eqb (l .n) 0) (allZero l) (inOrder l) && soundYear (l .n) (l .kind) (l .year)
 
 -- What refuses a record, with room for so many bytes of output: the first fault.
 unfoldable pub refusalOf : Ledger → List ℕ → (room : ℕ) → ℕ
-refusalOf l bytes room = firstOf (faultsOf (sound l) (l .n) (l .kind) (l .climate) bytes room)
+refusalOf l bytes room = firstOf (faultsOf (sound l) (l .n) (l .kind) (l .climate) (l .year) bytes room)

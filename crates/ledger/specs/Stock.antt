@@ -1,18 +1,20 @@
 -- Document 01, 'One step': one type in one period, once over the kind; and document 02, request b: what each type has released so
--- far. Place t has type t + 1; all carbon is in whole milligrams.
+-- far, and request c: what is remembered of the year. Place t has type t + 1; all carbon is in whole milligrams.
 use mathlib.Core.List.{List}
 use Prim.Native.Nat.{ℕ, _+_, _-_, _*_, _/_, _^_}
 use lib.ListN.{getD}
 use Rattle.numbers.specs.Eight.{eight, sumOf}
 use Rattle.record.specs.Fields.{kindOf, climateOf, depositOf}
 use Rattle.stock.specs.Stock.{entryAt}
+use Rattle.year.specs.Year.{noYear, remembered}
 use Rattle.ledger.specs.declared.book.Ledger.{Ledger}
 use Rattle.ledger.specs.declared.period.Decayed.{Decayed}
 use Rattle.ledger.specs.declared.period.Period.{Period}
 
 -- A fresh ledger is all zero.
 unfoldable pub fresh : Ledger
-fresh = record { n = 0; kind = 0; climate = 0; brought = eight (λ t. 0); stock = eight (λ t. 0); released = eight (λ t. 0) }
+fresh =
+    record { n = 0; kind = 0; climate = 0; year = noYear; brought = eight (λ t. 0); stock = eight (λ t. 0); released = eight (λ t. 0) }
 
 -- T, the carbon brought in, R, the carbon left, and the carbon released so far.
 abbrev pub broughtAt : Ledger → ℕ → ℕ
@@ -68,6 +70,7 @@ after l bytes =
       n = l .n + 1;
       kind = kindOf bytes;
       climate = climateOf bytes;
+      year = remembered (l .n) (l .year) bytes;
       brought = eight (newBrought l bytes);
       stock = eight (newStock l bytes);
       released = eight (newReleased l bytes);

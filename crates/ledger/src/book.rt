@@ -20,13 +20,15 @@ use crate::period::left;
 use crate::period::less;
 use output::Output;
 use record::Factors;
+use year::Year;
 
-// One site's ledger: the number n of accepted records, their kind and climate, and for each type the carbon brought in (T),
-// the carbon left (R) and the carbon released so far, in whole milligrams. Place 0 of a list is type 1.
+// One site's ledger: the number n of accepted records, their kind and climate, what a monthly one remembers of its year, and for each
+// type the carbon brought in (T), the carbon left (R) and the carbon released so far, in whole milligrams. Place 0 of a list is type 1.
 pub struct Ledger {
     pub n: u16,
     pub kind: u8,
     pub climate: u8,
+    pub year: Year,
     pub brought: [u64; 8],
     pub stock: [u64; 8],
     pub released: [u64; 8],
@@ -48,6 +50,7 @@ impl Ledger {
             n: 0,
             kind: 0,
             climate: 0,
+            year: Year::none(),
             brought: [0; 8],
             stock: [0; 8],
             released: [0; 8],
@@ -71,7 +74,8 @@ impl Ledger {
         let brought = self.brought;
         let left = self.stock;
         let released = self.released;
-        self.is_coded() & stock::are_within(self.n, brought, left, released)
+        let year = self.year.is_sound(self.n, self.kind);
+        self.is_coded() & stock::are_within(self.n, brought, left, released) & year
     }
 
     // Decays one type: answers what place t has after an accepted record, given the table entries of its kind and climate.
@@ -144,6 +148,7 @@ impl Ledger {
         let brought = all.brought;
         let stock = all.stock;
         let released = less(brought, stock);
+        let year = self.year.after(self.n, bytes);
         let n = self.n + 1;
         let kind = record::kind(bytes);
         let climate = record::climate(bytes);
@@ -162,6 +167,7 @@ impl Ledger {
             n,
             kind,
             climate,
+            year,
             brought,
             stock,
             released,
@@ -175,6 +181,7 @@ impl Ledger {
         requires { ⌜ ((accepted ≡ 0 → ⊥) → (sound self ≡ true) × (self .released ≡ eight (releasedAt self))) ⌝ }
         ensures { λ r. ⌜ r ≡ self ⌝ }
     {
+        let year = self.year;
         let brought = self.brought;
         let stock = self.stock;
         let released = if accepted == 0 {
@@ -186,6 +193,7 @@ impl Ledger {
             n: self.n,
             kind: self.kind,
             climate: self.climate,
+            year,
             brought,
             stock,
             released,

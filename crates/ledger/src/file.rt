@@ -46,6 +46,7 @@ pub fn run(ledger: Ledger, records: &[u8], out: &mut [u8]) -> Outcome
             ledger.n,
             ledger.kind,
             ledger.climate,
+            ledger.year,
             good,
             bytes,
             Ledger::BYTES,

@@ -45,12 +45,14 @@ fn ledger_of(payload: &[u8]) -> Ledger
     image::read(&payload[0..image::BYTES])
 }
 
-// Prints the 27 numbers of a ledger with a space after each.
+// Prints the 30 numbers of a ledger with a space after each.
 fn put_ledger(ledger: Ledger) {
     let brought = ledger.brought;
     let stock = ledger.stock;
     let released = ledger.released;
+    let year = ledger.year;
     print::three(ledger.n as u64, ledger.kind as u64, ledger.climate as u64);
+    print::three(year.factor as u64, year.class as u64, year.captured as u64);
     print::eight(brought);
     print::eight(stock);
     print::eight(released);

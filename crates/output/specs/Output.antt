@@ -4,7 +4,6 @@ use mathlib.Core.List.{List, [], _∷_, _++_}
 use Prim.Native.Nat.{ℕ}
 use lib.Dec.{leb}
 use lib.ListN.{length, drop}
-use lib.Seq.{sets}
 use Rattle.numbers.specs.Bytes.{bytesOf}
 use Rattle.output.specs.declared.Output.{Output}
 
@@ -19,9 +18,6 @@ fiveOf x0 figure bound R T = bytesOf 8 x0 ++ bytesOf 8 figure ++ bytesOf 8 bound
 unfoldable pub outputOf : Output → List ℕ
 outputOf o = headOf (o .period) (o .kind) (o .climate) ++ fiveOf (o .x0) (o .figure) (o .bound) (o .stock) (o .brought)
 
--- A head, or an output record, is written at the start of a buffer that has room for it; any other buffer keeps its bytes.
-unfoldable pub headed : (period kind climate : ℕ) → List ℕ → List ℕ
-headed period kind climate out = cond (leb 8 (length out)) (sets out 0 (headOf period kind climate)) out
-
+-- It is written at the start of a buffer that has room for it; any other buffer keeps its bytes.
 unfoldable pub written : Output → List ℕ → List ℕ
 written o out = cond (leb 48 (length out)) (outputOf o ++ drop 48 out) out

@@ -1,9 +1,9 @@
-// The output record of 48 bytes: 'One step' of document 01. The ledger writes it; the image of a ledger begins with the same head.
+// The output record of 48 bytes: 'One step' of document 01. The ledger writes it.
 ghost use mathlib.Core.Path.{_≡_};
 ghost use Prim.Native.Nat.{_≤_, _<_};
 ghost use lib.ListN.{length, set};
 ghost use lib.Seq.{sets};
-ghost use Rattle.output.specs.Output.{fiveOf, headed, written};
+ghost use Rattle.output.specs.Output.{headOf, fiveOf, written};
 
 // What an output record says: period, kind, climate, x0 in mg, figure and bound in grams CO2e, total R and total T in mg.
 pub struct Output {
@@ -25,13 +25,11 @@ fn put(out: &mut [u8], at: usize, byte: u8)
     out[at] = byte;
 }
 
-// Writes the first 8 bytes: period (or n), kind, climate and zeros. A buffer under 8 bytes keeps its values.
-pub fn write_head(out: &mut [u8], period: u16, kind: u8, climate: u8)
-    ensures { λ _. ⌜ now (out .exit) ≡ headed period kind climate (now (out .entry)) ⌝ }
+// Writes the first 8 bytes: period, kind, climate and zeros.
+fn write_head(out: &mut [u8], period: u16, kind: u8, climate: u8)
+    requires { ⌜ 48 ≤ length (now out) ⌝ }
+    ensures { λ _. ⌜ now (out .exit) ≡ sets (now (out .entry)) 0 (headOf period kind climate) ⌝ }
 {
-    if out.len() < 8 {
-        return;
-    }
     numbers::write_u16(out, 0, period as u64);
     put(out, 2, kind);
     put(out, 3, climate);

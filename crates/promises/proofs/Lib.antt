@@ -10,5 +10,6 @@ pub mod OneRun
 pub mod Site
 pub mod Worked
 pub mod Sorting
+pub mod Months
 pub mod Proved
 pub mod OneAnswer

@@ -8,6 +8,7 @@ pub mod Record
 pub mod Output
 pub mod Stock
 pub mod Figure
+pub mod Year
 pub mod Refusal
 pub mod Ledger
 pub mod Image

@@ -35,6 +35,7 @@ use Rattle.promises.proofs.OneRun.{one-run}
 use Rattle.promises.proofs.Site.{kept-site}
 use Rattle.promises.proofs.Worked.{worked}
 use Rattle.promises.proofs.Sorting.{sorted-where, sorted-well, sorted-light}
+use Rattle.promises.proofs.Months.{months-share, only-17}
 
 -- Every rate of a type that decays is in the table, by one test over the types and climates.
 rate? : (t climate : ℕ) → Bool
@@ -126,6 +127,9 @@ promises =
       listing-of-run = λ file room enough. listing-of-run file room (omega arith);
       kept-site = kept-site;
       released-total = λ offers. released-total (offering offers) (one-by-one offers);
+      months-share = λ offers. months-share (offering offers) (one-by-one offers);
+      only-17 = only-17;
+      yearly-not-17 = λ l bytes room e r. omega (arith, only-17 l bytes room r .by-month, e);
       worked-figures = worked;
       sorted-where = sorted-where;
       sorted-well = sorted-well;

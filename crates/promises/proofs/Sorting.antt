@@ -118,6 +118,6 @@ module _ (kind W : ℕ) (samples : List ℕ) where
       → ((t : ℕ) → t < 8 → massOf bytes t ≡ getD (sortedOf kind W samples .masses) t 0) → takeOf l bytes room .refusal ≡ 9 → ⊥
   unfolding refusalOf faultsOf light
   sorted-light l bytes room h nine =
-      let there = refused-with 8 (faultsOf (sound l) (l .n) (l .kind) (l .climate) bytes room) (sym (take-refusal l bytes room) ∙ nine) in
+      let there = refused-with 8 (faultsOf (sound l) (l .n) (l .kind) (l .climate) (l .year) bytes room) (sym (take-refusal l bytes room) ∙ nine) in
       let fine : everyOf (light bytes) 8 ≡ true = every-each (light bytes) 8 (λ u k. le-leb (massOf bytes u) massLimit (rw (h u k) (mass-light u k))) in
       true≢false (sym (rw fine at there))

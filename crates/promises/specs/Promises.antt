@@ -4,7 +4,7 @@ use mathlib.Core.Path.{_≡_}
 use mathlib.Core.Bool.{true, false}
 use mathlib.Core.Logic.{_↔_}
 use mathlib.Core.List.{List, map}
-use Prim.Native.Nat.{ℕ, _+_, _*_, _^_, _≤_, _<_}
+use Prim.Native.Nat.{ℕ, _+_, _-_, _*_, _/_, _%_, _^_, _≤_, _<_}
 use native.Mathlib.Omega.{arith}
 use lib.ListN.{length, getD}
 use Rattle.numbers.specs.Eight.{eight, sumOf, allOf}
@@ -12,8 +12,9 @@ use Rattle.numbers.specs.Fraction.{Fraction, over, whole, _⊕_, _≼_, _≺_, 
 use Rattle.numbers.specs.Lists.{added, Each}
 use Rattle.decay.specs.Series.{E, StandsFor, exponent}
 use Rattle.waste.specs.Waste.{rateOf}
-use Rattle.record.specs.Fields.{recordBytes, periodOf, kindOf, climateOf, massOf, depositOf}
+use Rattle.record.specs.Fields.{recordBytes, periodOf, kindOf, climateOf, factorOf, classOf, capturedOf, massOf, depositOf}
 use Rattle.stock.specs.Stock.{entryAt}
+use Rattle.year.specs.Year.{yearOf, noYear}
 use Rattle.ledger.specs.Stock.{fresh, broughtAt, stockAt, releasedAt}
 use Rattle.ledger.specs.Take.{totalStock, totalReleased, takeOf, outputFields}
 use Rattle.ledger.specs.History.{Offer, Turn, recordsOf, runOf, outOf, outcomeOf}
@@ -26,7 +27,7 @@ use Rattle.line.specs.Line.{acceptedText}
 use Rattle.lines.specs.Listing.{answerText, runText, listingOf}
 use Rattle.abi.specs.Entries.{freshLeft}
 use Rattle.promises.specs.Offering.{Offering, offering, recordsIn, releasedBy}
-use Rattle.promises.specs.Exact.{inert, exactStockAt, exactFigure}
+use Rattle.promises.specs.Exact.{inert, recordAt, exactStockAt, exactFigure}
 use Rattle.promises.specs.WholeRun.{runOver, WholeRun}
 use Rattle.promises.specs.Site.{Call, KeptSite}
 use Rattle.promises.specs.Sorting.{meanShare, Sortable}
@@ -100,6 +101,28 @@ pub record SaysOwn (bytes : List ℕ) (a : Answer) : Type 0 where
   pub own-climate : outputFields a .climate ≡ climateOf bytes
   pub own-line : answerText a ≡ acceptedText (periodOf bytes) (a .x0) (a .figure) (a .bound) (totalStock (a .ledger))
 
+-- Two records have the same correction factor, captured share and site class.
+pub record SameYear (one other : List ℕ) : Type 0 where
+  pub same-factor : factorOf one ≡ factorOf other
+  pub same-captured : capturedOf one ≡ capturedOf other
+  pub same-class : classOf one ≡ classOf other
+
+-- What request c of document 02 makes of an offering; record i is the one that was accepted as number i.
+pub record MonthsShare (o : Offering) : Type 0 where
+  -- 'In a monthly run, records 12q + 2 to 12q + 12 must repeat those three values of record 12q + 1': all records of one year have them.
+  pub one-year : o .ledger .kind ≡ 2 → (i k : ℕ) → 1 ≤ i → i ≤ o .ledger .n → 1 ≤ k → k ≤ o .ledger .n → (i - 1) / 12 ≡ (k - 1) / 12
+      → SameYear (recordAt (recordsIn o) i) (recordAt (recordsIn o) k)
+  -- 'the ledger remembers them': those of the record 12q + 1 with which the year of the last one began.
+  pub remembers : o .ledger .kind ≡ 2 → 1 ≤ o .ledger .n → o .ledger .year ≡ yearOf (recordAt (recordsIn o) (12 * ((o .ledger .n - 1) / 12) + 1))
+  -- 'Yearly runs keep these fields zero.'
+  pub yearly-zero : o .ledger .kind ≡ 1 → o .ledger .year ≡ noYear
+
+-- A record that is not as the year of a ledger has it: monthly, in the middle of a year, and with another of the three values.
+pub record NotTheYears (l : Ledger) (bytes : List ℕ) : Type 0 where
+  pub by-month : kindOf bytes ≡ 2
+  pub mid-year : l .n % 12 ≡ 0 → ⊥
+  pub unlike : yearOf bytes ≡ l .year → ⊥
+
 pub record Promises : Type 0 where
   -- 'Start a fresh ledger and offer any list of records, passing over refused ones.'
   pub demand-three : (offers : List Offer) → DemandThree (offering offers)
@@ -123,6 +146,11 @@ pub record Promises : Type 0 where
   -- Document 02, request b, 'without adding up old files': what all types have released so far is the x0 of the accepted records, which
   -- stand in their output records, added.
   pub released-total : (offers : List Offer) → totalReleased (offering offers .ledger) ≡ added (λ (turn : Turn). turn .answer .x0) (offering offers .accepted)
+  -- Document 02, request c: what is accepted of any offers shares the year's factors;
+  pub months-share : (offers : List Offer) → MonthsShare (offering offers)
+  -- 17 refuses nothing but a record that is not as its year has it, and so never a yearly one.
+  pub only-17 : (l : Ledger) (bytes : List ℕ) (room : ℕ) → takeOf l bytes room .refusal ≡ 17 → NotTheYears l bytes
+  pub yearly-not-17 : (l : Ledger) (bytes : List ℕ) (room : ℕ) → kindOf bytes ≡ 1 → takeOf l bytes room .refusal ≡ 17 → ⊥
   -- 'P1 to P10 are one table proved with a single statement from the definitions'
   pub worked-figures : allOf (map holds rows) ≡ true
   -- Document 02, request a: a total and samples are accepted exactly where the request allows them, and the masses are then as it

@@ -21,18 +21,27 @@ module _ (bytes : List ℕ) where
   abbrev pub climateOf : ℕ
   climateOf = getD bytes 3 0
 
-  -- The correction factor, percent; oxidation OX, methane share F and DOCf, percent; site class; warming potential GWP; captured f,
-  -- hundredths of a percent.
+  -- The correction factor, percent; site class; captured f, hundredths of a percent;
+  abbrev pub factorOf : ℕ
+  factorOf = getD bytes 4 0
+
+  abbrev pub classOf : ℕ
+  classOf = getD bytes 8 0
+
+  abbrev pub capturedOf : ℕ
+  capturedOf = numberAt 2 bytes 10
+
+  -- with them oxidation OX, methane share F and DOCf, percent, and warming potential GWP.
   unfoldable pub factorsOf : Factors
   factorsOf =
       record {
-        factor = getD bytes 4 0;
+        factor = factorOf;
         oxidation = getD bytes 5 0;
         methane = getD bytes 6 0;
         docf = getD bytes 7 0;
-        class = getD bytes 8 0;
+        class = classOf;
         potential = getD bytes 9 0;
-        captured = numberAt 2 bytes 10;
+        captured = capturedOf;
       }
 
   -- bytes 12 to 15, which are to be zero

@@ -7,26 +7,33 @@ use Rattle.numbers.specs.Eight.{allOf}
 use Rattle.numbers.specs.Fault.{between}
 use Rattle.decay.specs.Series.{isKind}
 use Rattle.waste.specs.Waste.{massLimit, isClimate, isClass}
-use Rattle.record.specs.Fields.{kindOf, climateOf, factorsOf, zerosOf, massOf}
+use Rattle.record.specs.Fields.{kindOf, climateOf, classOf, zerosOf, massOf}
 use Rattle.record.specs.declared.factors.Factors.{Factors}
 
 -- Kind, climate and class are codes, and bytes 12-15 are all 0.
 abbrev pub codes : List ℕ → List Bool
 codes bytes =
-    isKind (kindOf bytes) ∷ isClimate (climateOf bytes) ∷ isClass (factorsOf bytes .class) ∷ eqb (zerosOf bytes) 0 ∷ []
+    isKind (kindOf bytes) ∷ isClimate (climateOf bytes) ∷ isClass (classOf bytes) ∷ eqb (zerosOf bytes) 0 ∷ []
 
 unfoldable pub coded : List ℕ → Bool
 coded bytes = allOf (codes bytes)
 
+-- The correction factor, and the captured share.
+abbrev pub isFactor : ℕ → Bool
+isFactor factor = between 1 factor 100
+
+abbrev pub isShare : ℕ → Bool
+isShare captured = leb captured 10000
+
 -- The factors, class aside, are within their ranges.
 abbrev pub ranges : Factors → List Bool
 ranges v =
-    between 1 (v .factor) 100
+    isFactor (v .factor)
     ∷ leb (v .oxidation) 100
     ∷ leb (v .methane) 100
     ∷ leb (v .docf) 100
     ∷ between 1 (v .potential) 100
-    ∷ leb (v .captured) 10000
+    ∷ isShare (v .captured)
     ∷ []
 
 unfoldable pub inRange : Factors → Bool

@@ -1,7 +1,7 @@
 // The other fields of a record, what is allowed in them, and the carbon of a mass.
 ghost use mathlib.Core.Path.{_≡_};
 ghost use lib.Dec.{eqb};
-ghost use Rattle.record.specs.Fields.{periodOf, kindOf, climateOf, zerosOf, massOf, depositOf};
+ghost use Rattle.record.specs.Fields.{periodOf, kindOf, climateOf, factorOf, classOf, capturedOf, zerosOf, massOf, depositOf};
 ghost use Rattle.record.specs.Ranges.{coded, light};
 use crate::bytes::byte;
 use crate::bytes::four;
@@ -28,6 +28,27 @@ pub fn climate(bytes: &[u8]) -> u8
     byte(bytes, 3)
 }
 
+// Answers the correction factor.
+pub fn factor(bytes: &[u8]) -> u8
+    ensures { λ r. ⌜ r ≡ factorOf (now (bytes .entry)) ⌝ }
+{
+    byte(bytes, 4)
+}
+
+// Answers the site class.
+pub fn class(bytes: &[u8]) -> u8
+    ensures { λ r. ⌜ r ≡ classOf (now (bytes .entry)) ⌝ }
+{
+    byte(bytes, 8)
+}
+
+// Answers the captured share f.
+pub fn captured(bytes: &[u8]) -> u16
+    ensures { λ r. ⌜ r ≡ capturedOf (now (bytes .entry)) ⌝ }
+{
+    two(bytes, 10)
+}
+
 // Tells whether bytes 12 to 15 are zero: the first is, and their number is too small for any other. So written, it compiles to two
 // comparisons.
 fn is_blank(bytes: &[u8]) -> bool
@@ -40,7 +61,7 @@ fn is_blank(bytes: &[u8]) -> bool
 pub fn is_coded(bytes: &[u8]) -> bool
     ensures { λ r. ⌜ r ≡ coded (now (bytes .entry)) ⌝ }
 {
-    let class = waste::is_class(byte(bytes, 8)) & is_blank(bytes);
+    let class = waste::is_class(class(bytes)) & is_blank(bytes);
     let climate = waste::is_climate(climate(bytes)) & class;
     decay::is_kind(kind(bytes)) & climate
 }

@@ -5,8 +5,11 @@ mod factors;
 mod fields;
 
 pub use factors::Factors;
+pub use fields::captured;
+pub use fields::class;
 pub use fields::climate;
 pub use fields::deposit;
+pub use fields::factor;
 pub use fields::is_coded;
 pub use fields::is_light;
 pub use fields::kind;

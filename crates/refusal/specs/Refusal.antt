@@ -1,4 +1,4 @@
--- Document 01, 'Refusal numbers, tested in this order'.
+-- Document 01, 'Refusal numbers, tested in this order'; and of document 02 request c: '17, after 8 and before 9'.
 use mathlib.Core.Bool.{Bool, not, _&&_}
 use mathlib.Core.List.{List, [], _∷_}
 use Prim.Native.Nat.{ℕ, _+_}
@@ -9,15 +9,17 @@ use Rattle.numbers.specs.Fault.{Fault, _when_}
 use Rattle.record.specs.Fields.{recordBytes, periodOf, kindOf, climateOf, factorsOf}
 use Rattle.record.specs.Ranges.{coded, inRange, light}
 use Rattle.stock.specs.Stock.{mostRecords}
+use Rattle.year.specs.Year.{shares}
+use Rattle.year.specs.declared.Year.{Year}
 
 -- Kind and climate are the ledger's.
 unfoldable pub continues : (kind climate : ℕ) → List ℕ → Bool
 continues kind climate bytes = eqb (kindOf bytes) kind && eqb (climateOf bytes) climate
 
--- The faults by their numbers, in order, for a ledger with n records, its kind and its climate; `good` says whether the ledger is
--- sound, and `room` how many bytes of output are left.
-unfoldable pub faultsOf : (good : Bool) (n kind climate : ℕ) → List ℕ → (room : ℕ) → List Fault
-faultsOf good n kind climate bytes room =
+-- The faults by their numbers, in order, for a ledger with n records, its kind, its climate and the year that it remembers; `good`
+-- says whether the ledger is sound, and `room` how many bytes of output are left.
+unfoldable pub faultsOf : (good : Bool) (n kind climate : ℕ) → Year → List ℕ → (room : ℕ) → List Fault
+faultsOf good n kind climate year bytes room =
     1 when not (eqb (length bytes) recordBytes)
     ∷ 2 when ltb room recordBytes
     ∷ 3 when not good
@@ -26,5 +28,6 @@ faultsOf good n kind climate bytes room =
     ∷ 6 when not (eqb (periodOf bytes) (n + 1))
     ∷ 7 when (ltb 0 n && not (continues kind climate bytes))
     ∷ 8 when not (inRange (factorsOf bytes))
+    ∷ 17 when not (shares n year bytes)
     ∷ 9 when not (everyOf (light bytes) 8)
     ∷ []

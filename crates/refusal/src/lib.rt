@@ -1,4 +1,5 @@
-// The refusals of a record by their numbers: 'Refusal numbers' of document 01. The ledger asks it, with its own n, kind and climate.
+// The refusals of a record by their numbers: 'Refusal numbers' of document 01. The ledger asks it, with its own n, kind, climate
+// and year.
 mod file;
 
 pub use file::left_over;
@@ -7,6 +8,7 @@ ghost use mathlib.Core.Path.{_≡_};
 ghost use Rattle.numbers.specs.Fault.{firstOf, ahead};
 ghost use Rattle.refusal.specs.Refusal.{continues, faultsOf};
 use record::Factors;
+use year::Year;
 
 // Tells whether a record has a kind and a climate.
 fn is_continued(kind: u8, climate: u8, bytes: &[u8]) -> bool
@@ -16,8 +18,8 @@ fn is_continued(kind: u8, climate: u8, bytes: &[u8]) -> bool
 }
 
 // Answers the refusal that everything ahead of the masses (9) decides, 0 if none; `good` says whether the ledger is sound.
-pub fn early(n: u16, kind: u8, climate: u8, good: bool, bytes: &[u8], room: usize) -> u8
-    ensures { λ r. ⌜ r ≡ firstOf (ahead 9 (faultsOf good n kind climate (now (bytes .entry)) room)) ⌝ }
+pub fn early(n: u16, kind: u8, climate: u8, year: Year, good: bool, bytes: &[u8], room: usize) -> u8
+    ensures { λ r. ⌜ r ≡ firstOf (ahead 9 (faultsOf good n kind climate year (now (bytes .entry)) room)) ⌝ }
 {
     if bytes.len() != record::BYTES {
         return 1;
@@ -42,6 +44,9 @@ pub fn early(n: u16, kind: u8, climate: u8, good: bool, bytes: &[u8], room: usiz
     }
     if !Factors::of(bytes).is_in_range() {
         return 8;
+    }
+    if !year.is_shared(n, bytes) {
+        return 17;
     }
     0
 }

@@ -4,6 +4,9 @@ use Rattle.record.proofs.factors.Factors.is_in_range.Reads as is-in-range
 use Rattle.record.proofs.period.Reads as period
 use Rattle.record.proofs.kind.Reads as kind
 use Rattle.record.proofs.climate.Reads as climate
+use Rattle.record.proofs.factor.Reads as factor
+use Rattle.record.proofs.class.Reads as class
+use Rattle.record.proofs.captured.Reads as captured
 use Rattle.record.proofs.is_coded.Reads as is-coded
 use Rattle.record.proofs.is_light.Reads as is-light
 use Rattle.record.proofs.deposit.Reads as deposit
@@ -23,6 +26,15 @@ kind-one = by-equation (λ κs a r s p. p)
 
 pub climate-one : OneAnswer climate.Learnt
 climate-one = by-equation (λ κs a r s p. p)
+
+pub factor-one : OneAnswer factor.Learnt
+factor-one = by-equation (λ κs a r s p. p)
+
+pub class-one : OneAnswer class.Learnt
+class-one = by-equation (λ κs a r s p. p)
+
+pub captured-one : OneAnswer captured.Learnt
+captured-one = by-equation (λ κs a r s p. p)
 
 pub is-coded-one : OneAnswer is-coded.Learnt
 is-coded-one = by-equation (λ κs a r s p. p)

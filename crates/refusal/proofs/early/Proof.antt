@@ -11,7 +11,7 @@ use Rattle.refusal.proofs.early.Statement.{statement}
 use Rattle.refusal.proofs.early.Tie as tie
 
 abbrev faults : tie.Start → List Fault
-faults s = ahead 9 (faultsOf (s .args .good) (s .args .n) (s .args .kind) (s .args .climate) (s .args .bytes .now) (s .args .room))
+faults s = ahead 9 (faultsOf (s .args .good) (s .args .n) (s .args .kind) (s .args .climate) (s .args .year) (s .args .bytes .now) (s .args .room))
 
 -- The answer is that of the faults from the one with a number on.
 abbrev Past : tie.Start → ℕ → Type 0
@@ -45,9 +45,13 @@ past-7 : (c : tie.Else7) → Past (c .before .before .before .before .before .be
 unfolding faultsOf
 past-7 c = rw (past-6 (c .before .before)) (simp (rw (c .before .is-continued .ensures) at (c .if7 .left)))
 
-past-8 : (c : tie.Else8) → Past (c .before .before .before .before .before .before .before .before .before .before .before .before .before .before) 9
+past-8 : (c : tie.Else8) → Past (c .before .before .before .before .before .before .before .before .before .before .before .before .before .before) 17
 unfolding faultsOf
 past-8 c = rw (past-7 (c .before .before .before)) (simp (rw (c .before .is-in-range .ensures, c .before .before .of .ensures) at (c .if8 .left)))
+
+past-17 : (c : tie.Else9) → Past (c .before .before .before .before .before .before .before .before .before .before .before .before .before .before .before .before) 9
+unfolding faultsOf
+past-17 c = rw (past-8 (c .before .before)) (simp (rw (c .before .is-shared .ensures) at (c .if9 .left)))
 
 pub early-spec : {M : Type 1} → statement M
 unfolding faultsOf
@@ -66,4 +70,6 @@ early-spec =
     (λ c. rw (past-6 (c .before .before)) (simp (rw (c .before .is-continued .ensures) at (c .if7 .taken))))
     (λ c κs. search needs) (λ c κs. search needs)
     (λ c. rw (past-7 (c .before .before .before)) (simp (rw (c .before .is-in-range .ensures, c .before .before .of .ensures) at (c .if8 .taken))))
-    (λ c. sym (past-8 c)))
+    (λ c κs. search needs)
+    (λ c. rw (past-8 (c .before .before)) (simp (rw (c .before .is-shared .ensures) at (c .if9 .taken))))
+    (λ c. sym (past-17 c)))

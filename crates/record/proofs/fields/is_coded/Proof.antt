@@ -1,12 +1,11 @@
 -- The four tests, one after the other.
 use mathlib.Core.Bool.{and-true}
-use Rattle.record.specs.Fields.{factorsOf}
 use Rattle.record.specs.Ranges.{coded}
 use Rattle.record.proofs.fields.is_coded.Statement.{statement}
 use Rattle.record.proofs.fields.is_coded.Tie as tie
 
 returns : tie.Need-returns
-unfolding coded factorsOf
+unfolding coded
 returns c =
     simp (
       c .is-kind .ensures,
@@ -15,7 +14,7 @@ returns c =
       c .before .before .before .climate .ensures,
       c .before .before .before .before .is-blank .ensures,
       c .before .before .before .before .before .is-class .ensures,
-      c .before .before .before .before .before .before .byte .ensures,
+      c .before .before .before .before .before .before .class .ensures,
       and-true,
     )
 

@@ -61,11 +61,11 @@ less-requires c κs t place =
 returns : tie.Need-returns
 unfolding acceptedOf after periodOfAll written outputRecord outputFields
 returns c =
-    let s = c .before .before .before .before .before .before .before .before .before .before .before .before .before .before .before .before .before .before .before in
-    let all = c .before .before .before .before .before .before .before .before .before .before .before .before .before .before .before .before .decay-all .ensures in
+    let s = c .before .before .before .before .before .before .before .before .before .before .before .before .before .before .before .before .before .before .before .before in
+    let all = c .before .before .before .before .before .before .before .before .before .before .before .before .before .before .before .before .before .decay-all .ensures in
     let kind = c .before .before .before .before .before .before .before .before .before .before .kind .ensures in
     let climate = c .before .before .before .before .before .before .before .before .before .climate .ensures in (
-      rw (c .before .before .before .before .before .before .before .before .before .before .before .before .less .ensures, kind, climate, all, released-is s),
+      rw (c .before .before .before .before .before .before .before .before .before .before .before .before .before .less .ensures, c .before .before .before .before .before .before .before .before .before .before .before .before .after .ensures, kind, climate, all, released-is s),
       (simp (le-leb 48 (length (now (s .args .out))) (enough s)) at (c .before .before .write .ensures))
           ∙ simp (
             c .before .before .before .before .total2 .ensures,
@@ -73,7 +73,7 @@ returns c =
             c .before .before .before .before .before .before .bound .ensures,
             c .before .before .before .before .before .before .before .margins .ensures,
             c .before .before .before .before .before .before .before .before .figure .ensures,
-            c .before .before .before .before .before .before .before .before .before .before .before .before .before .before .before .of .ensures,
+            c .before .before .before .before .before .before .before .before .before .before .before .before .before .before .before .before .of .ensures,
             kind,
             climate,
             all,
@@ -86,6 +86,6 @@ returns c =
 pub enter-spec : {M : Type 1} → statement M
 enter-spec =
     tie.close
-    (tie.spec decay-all-requires (λ c κs. search needs) less-requires (λ c. omega (arith, taken (c .before .before .before .before .before .before .before .before) .more)) (λ c κs. search needs) (λ c κs. search needs)
+    (tie.spec decay-all-requires (λ c κs. search needs) less-requires (λ c κs. search needs) (λ c. omega (arith, taken (c .before .before .before .before .before .before .before .before .before) .more)) (λ c κs. search needs) (λ c κs. search needs)
     (λ c κs. search needs) (λ c κs. search needs) (λ c κs. search needs) (λ c κs. search needs)
     (λ c κs. search needs) (λ c κs. search needs) (λ c. search needs) returns)

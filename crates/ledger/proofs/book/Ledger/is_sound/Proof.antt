@@ -10,5 +10,5 @@ pub is-sound-spec : {M : Type 1} → statement M
 unfolding withinAt
 is-sound-spec =
     tie.close
-    (tie.spec (λ c κs. search needs) (λ c κs. search needs)
-    (λ c. rw (c .are-within .ensures, c .before .is-coded .ensures) (sym (sound-tests (c .before .before .before .before .before .args .self)))))
+    (tie.spec (λ c κs. search needs) (λ c κs. search needs) (λ c κs. search needs)
+    (λ c. rw (c .are-within .ensures, c .before .is-coded .ensures, c .before .before .is-sound .ensures) (sym (sound-tests (c .before .before .before .before .before .before .args .self)))))

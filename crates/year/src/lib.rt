@@ -1,0 +1,86 @@
+// The factors that the months of one year share: request c of document 02. The ledger remembers them, and the refusals ask.
+ghost use mathlib.Core.Path.{_≡_};
+ghost use Rattle.year.specs.Year.{yearOf, noYear, repeats, shares, remembered, yearInRange, soundYear};
+
+// The months of a year.
+const MONTHS: u16 = 12;
+// The kind of a monthly run.
+const MONTHLY: u8 = 2;
+
+// A year's correction factor in percent, captured share f in hundredths of a percent, and site class; all 0 where none is remembered.
+pub struct Year {
+    pub factor: u8,
+    pub captured: u16,
+    pub class: u8,
+}
+
+impl Year {
+    // Answers that none is remembered.
+    pub fn none() -> Year
+        ensures { λ r. ⌜ r ≡ noYear ⌝ }
+    {
+        Year {
+            factor: 0,
+            captured: 0,
+            class: 0,
+        }
+    }
+
+    // Answers those of a record.
+    pub fn of(bytes: &[u8]) -> Year
+        ensures { λ r. ⌜ r ≡ yearOf (now (bytes .entry)) ⌝ }
+    {
+        Year {
+            factor: record::factor(bytes),
+            captured: record::captured(bytes),
+            class: record::class(bytes),
+        }
+    }
+
+    // Tells whether a record has the same.
+    fn is_repeated(self, bytes: &[u8]) -> bool
+        ensures { λ r. ⌜ r ≡ repeats self (now (bytes .entry)) ⌝ }
+    {
+        let factor = record::factor(bytes) == self.factor;
+        let captured = record::captured(bytes) == self.captured;
+        factor & captured & (record::class(bytes) == self.class)
+    }
+
+    // Tells whether a record behind n others may come: it is yearly, or begins a year, or has the same.
+    pub fn is_shared(self, n: u16, bytes: &[u8]) -> bool
+        ensures { λ r. ⌜ r ≡ shares n self (now (bytes .entry)) ⌝ }
+    {
+        if record::kind(bytes) != MONTHLY {
+            return true;
+        }
+        (n % MONTHS == 0) | self.is_repeated(bytes)
+    }
+
+    // Answers what is remembered after a record behind n others.
+    pub fn after(self, n: u16, bytes: &[u8]) -> Year
+        ensures { λ r. ⌜ r ≡ remembered n self (now (bytes .entry)) ⌝ }
+    {
+        if (record::kind(bytes) == MONTHLY) & (n % MONTHS == 0) {
+            return Year::of(bytes);
+        }
+        self
+    }
+
+    // Tells whether they are within their ranges.
+    fn is_in_range(self) -> bool
+        ensures { λ r. ⌜ r ≡ yearInRange self ⌝ }
+    {
+        let factor = numbers::is_between(1, self.factor as u64, 100);
+        factor & (self.captured <= 10000) & waste::is_class(self.class)
+    }
+
+    // Tells whether a ledger with n records of a kind may remember them.
+    pub fn is_sound(self, n: u16, kind: u8) -> bool
+        ensures { λ r. ⌜ r ≡ soundYear n kind self ⌝ }
+    {
+        if (n > 0) & (kind == MONTHLY) {
+            return self.is_in_range();
+        }
+        (self.factor == 0) & (self.captured == 0) & (self.class == 0)
+    }
+}
