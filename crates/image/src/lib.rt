@@ -41,10 +41,10 @@ fn write_front(out: &mut [u8], ledger: Ledger)
     ensures { λ _. ⌜ now (out .exit) ≡ sets (now (out .entry)) 0 (frontOf ledger) ⌝ }
 {
     numbers::write_u16(out, 0, ledger.n as u64);
-    out[2] = ledger.kind;
-    out[3] = ledger.climate;
-    out[4] = ledger.year.factor;
-    out[5] = ledger.year.class;
+    numbers::write_u8(out, 2, ledger.kind);
+    numbers::write_u8(out, 3, ledger.climate);
+    numbers::write_u8(out, 4, ledger.year.factor);
+    numbers::write_u8(out, 5, ledger.year.class);
     numbers::write_u16(out, 6, ledger.year.captured as u64);
 }
 

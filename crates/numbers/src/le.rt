@@ -1,7 +1,7 @@
 // Numbers as bytes, little-endian.
 ghost use mathlib.Core.Path.{_≡_};
 ghost use Prim.Native.Nat.{_+_, _^_, _≤_, _<_};
-ghost use lib.ListN.{length};
+ghost use lib.ListN.{length, set};
 ghost use lib.Seq.{sets};
 ghost use Rattle.numbers.specs.Bytes.{numberAt, bytesOf};
 
@@ -45,6 +45,14 @@ fn write_low(out: &mut [u8], at: usize, count: usize, x: u64)
         out[at + k] = (rest % 256) as u8;
         rest = rest / 256;
     }
+}
+
+// Writes a byte at a place.
+pub fn write_u8(out: &mut [u8], at: usize, byte: u8)
+    requires { ⌜ at < length (now out) ⌝ }
+    ensures { λ _. ⌜ now (out .exit) ≡ set (now (out .entry)) at byte ⌝ }
+{
+    out[at] = byte;
 }
 
 // Writes the low 2 bytes of a number at a place.

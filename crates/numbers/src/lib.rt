@@ -10,6 +10,7 @@ pub use copy::write_bytes;
 pub use le::read_u16;
 pub use le::read_u32;
 pub use le::read_u64;
+pub use le::write_u8;
 pub use le::write_u16;
 pub use le::write_u32;
 pub use le::write_u64;

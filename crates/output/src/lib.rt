@@ -1,7 +1,7 @@
 // The output record of 48 bytes: 'One step' of document 01. The ledger writes it.
 ghost use mathlib.Core.Path.{_≡_};
-ghost use Prim.Native.Nat.{_≤_, _<_};
-ghost use lib.ListN.{length, set};
+ghost use Prim.Native.Nat.{_≤_};
+ghost use lib.ListN.{length};
 ghost use lib.Seq.{sets};
 ghost use Rattle.output.specs.Output.{headOf, fiveOf, written};
 
@@ -17,22 +17,14 @@ pub struct Output {
     pub brought: u64,
 }
 
-// Stores a byte at a place.
-fn put(out: &mut [u8], at: usize, byte: u8)
-    requires { ⌜ at < length (now out) ⌝ }
-    ensures { λ _. ⌜ now (out .exit) ≡ set (now (out .entry)) at byte ⌝ }
-{
-    out[at] = byte;
-}
-
 // Writes the first 8 bytes: period, kind, climate and zeros.
 fn write_head(out: &mut [u8], period: u16, kind: u8, climate: u8)
     requires { ⌜ 48 ≤ length (now out) ⌝ }
     ensures { λ _. ⌜ now (out .exit) ≡ sets (now (out .entry)) 0 (headOf period kind climate) ⌝ }
 {
     numbers::write_u16(out, 0, period as u64);
-    put(out, 2, kind);
-    put(out, 3, climate);
+    numbers::write_u8(out, 2, kind);
+    numbers::write_u8(out, 3, climate);
     numbers::write_u32(out, 4, 0);
 }
 

@@ -9,7 +9,7 @@ returns c =
     let third = c .before .before .before .before .before .before in
     let second = third .before .before .before .before in
     let first = second .before .before .before .before in
-    c .before .before .write-u32 .ensures ∙ rw (third .put2 .ensures, second .put .ensures, first .write-u16 .ensures)
+    c .before .before .write-u32 .ensures ∙ rw (third .write-u82 .ensures, second .write-u8 .ensures, first .write-u16 .ensures)
 
 pub write-head-spec : {M : Type 1} → statement M
 write-head-spec =

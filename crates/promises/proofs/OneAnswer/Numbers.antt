@@ -4,6 +4,7 @@ use Rattle.numbers.proofs.mul_div.Reads as mul-div
 use Rattle.numbers.proofs.read_u16.Reads as read-u16
 use Rattle.numbers.proofs.read_u32.Reads as read-u32
 use Rattle.numbers.proofs.read_u64.Reads as read-u64
+use Rattle.numbers.proofs.write_u8.Reads as write-u8
 use Rattle.numbers.proofs.write_u16.Reads as write-u16
 use Rattle.numbers.proofs.write_u32.Reads as write-u32
 use Rattle.numbers.proofs.write_u64.Reads as write-u64
@@ -24,6 +25,9 @@ read-u32-one = by-equation (λ κs a r s p. p .0)
 
 pub read-u64-one : OneAnswer read-u64.Learnt
 read-u64-one = by-equation (λ κs a r s p. p)
+
+pub write-u8-one : Settled write-u8.Learnt (λ κs r s. now (s .0))
+write-u8-one = by-equation (λ κs a r s p. p)
 
 pub write-u16-one : Settled write-u16.Learnt (λ κs r s. now (s .0))
 write-u16-one = by-equation (λ κs a r s p. p)
