@@ -6,33 +6,12 @@ from itertools import combinations
 
 import cases
 import reference
+from built import offer_in_year, run_case, run_in_year, step_case, step_in_year
 from cases import case
 from faults import FAULTS, Offer, applied, of_field
-from histories import KINDS_AND_CLIMATES, PLACES, PLAIN, balanced, ceilings, damaged, greatest_record, only
-from histories import random_file, random_ledger, random_record, replaced
-from reference import BYTES, FRESH, MASS_LIMIT, RECORDS, Ledger, little, write_record
-
-
-def step_case(ledger, data, room=BYTES, expect=None, zeros=bytes(4)):
-    """One step; expect is the refusal that it is built for."""
-    image = cases.image(ledger, zeros)
-    found = reference.refusal_of(cases.ledger_of(image), data, room)
-    if expect not in (None, found):
-        raise SystemExit(f"step built for {expect}, found {found}: {ledger} room {room} {data.hex()}")
-    return case("s", image + little([(room, 2)]) + data)
-
-
-def run_case(ledger, data, room, expect=None, zeros=bytes(4)):
-    """A whole run; expect is the accepted count and the refusal that it is built for."""
-    image = cases.image(ledger, zeros)
-    found = reference.run(cases.ledger_of(image), data, bytes(min(room, cases.LONGEST)))[1:3]
-    if expect not in (None, found):
-        raise SystemExit(f"run built for {expect}, found {found}: {ledger} room {room}")
-    return case("r", image + little([(room, 4)]) + data)
-
-
-def offer_case(offer, expect):
-    return step_case(offer.ledger, offer.data(), offer.room, expect)
+from histories import KINDS_AND_CLIMATES, PLACES, PLAIN, balanced, ceilings, damaged, file_of, greatest_record, only
+from histories import plain_year, random_file, random_ledger, random_record, replaced
+from reference import BYTES, FRESH, MASS_LIMIT, NO_YEAR, RECORDS, Ledger, little, remembers, write_record
 
 
 def fair_offer(rng, ledger_of=random_ledger):
@@ -54,38 +33,38 @@ def worked_figures():
     """Document 01's figures P6 to P10, its list of what is run only, and its listing."""
     for place, climate, kind in ((3, 4, 1), (1, 1, 1), (2, 2, 1), (3, 4, 2), (6, 1, 1)):
         first = PLAIN._replace(kind=kind, climate=climate, masses=only(place, 1))
-        yield step_case(FRESH, write_record(first), expect=0)
+        yield step_in_year(FRESH, write_record(first), expect=0)
     for place in range(1, 9):
-        yield step_case(FRESH, write_record(PLAIN._replace(masses=only(place, MASS_LIMIT))), expect=0)
-        yield step_case(FRESH, write_record(PLAIN._replace(masses=only(place, MASS_LIMIT + 1))), expect=9)
-    yield step_case(FRESH, write_record(PLAIN._replace(factor=0)), expect=8)
-    yield step_case(FRESH, write_record(PLAIN._replace(f=10000, masses=(MASS_LIMIT,) * 8)), expect=0)
-    yield step_case(FRESH, write_record(PLAIN._replace(period=0)), expect=6)
-    yield step_case(Ledger(1199, 1, 4), write_record(PLAIN._replace(period=1200)), expect=0)
-    yield step_case(Ledger(1200, 1, 4), write_record(PLAIN._replace(period=1201)), expect=4)
+        yield step_in_year(FRESH, write_record(PLAIN._replace(masses=only(place, MASS_LIMIT))), expect=0)
+        yield step_in_year(FRESH, write_record(PLAIN._replace(masses=only(place, MASS_LIMIT + 1))), expect=9)
+    yield step_in_year(FRESH, write_record(PLAIN._replace(factor=0)), expect=8)
+    yield step_in_year(FRESH, write_record(PLAIN._replace(f=10000, masses=(MASS_LIMIT,) * 8)), expect=0)
+    yield step_in_year(FRESH, write_record(PLAIN._replace(period=0)), expect=6)
+    yield step_in_year(Ledger(1199, 1, 4), write_record(PLAIN._replace(period=1200)), expect=0)
+    yield step_in_year(Ledger(1200, 1, 4), write_record(PLAIN._replace(period=1201)), expect=4)
     sample = [PLAIN._replace(masses=only(3, 1000)), PLAIN._replace(period=2), PLAIN._replace(period=5)]
-    yield case("l", b"".join(map(write_record, sample)))
+    yield case("l", file_of(sample))
     yield case("l", b"")
 
 
 def steps_at_fault(rng):
     """Each fault alone; a fault of each pair of fields, the lower number winning; one of each number from each on."""
     for fault in FAULTS:
-        yield offer_case(applied(fair_offer(rng), [fault]), fault.number)
+        yield offer_in_year(applied(fair_offer(rng), [fault]), fault.number)
     fields = dict.fromkeys((fault.number, fault.field) for fault in FAULTS)
     for one, other in combinations(fields, 2):
         if one[0] != other[0] and one[1] != other[1]:
             pair = rng.choice(of_field(*one)), rng.choice(of_field(*other))
-            yield offer_case(applied(fair_offer(rng), pair), one[0])
+            yield offer_in_year(applied(fair_offer(rng), pair), one[0])
     each = "length", "room", "R", "n", "site_class", "period", "kind", "GWP", "masses"
     for least in range(1, 10):
         rest = [rng.choice(of_field(number, field)) for number, field in enumerate(each, 1) if number >= least]
-        yield offer_case(applied(fair_offer(rng), rest), least)
+        yield offer_in_year(applied(fair_offer(rng), rest), least)
 
 
 def steps_at_limits(rng):
     """Records and ledgers at every limit that is still allowed."""
-    middle = Ledger(7, 1, 3, ceilings(1), ceilings(1))
+    middle = Ledger(7, 1, 3, NO_YEAR, ceilings(1), ceilings(1))
     record = PLAIN._replace(period=8, climate=3, masses=(1000, 0, 7, 0, 0, 5, 0, 1))
     limits = {
         "factor": (1, 100),
@@ -104,29 +83,36 @@ def steps_at_limits(rng):
     for kind, climate in KINDS_AND_CLIMATES:
         offers += [(FRESH, PLAIN._replace(kind=kind, climate=climate))]
         for n in (1, 1199):
-            offers += [(Ledger(n, kind, climate, ceilings(n), ceilings(n)), greatest_record(n, kind, climate))]
+            full = Ledger(n, kind, climate, plain_year(kind), ceilings(n), ceilings(n))
+            offers += [(full, greatest_record(n, kind, climate))]
     for ledger, record in offers:
-        yield step_case(balanced(ledger), write_record(record), expect=0)
+        yield step_in_year(balanced(ledger), write_record(record), expect=0)
     for room in (49, 96, 300):
-        yield offer_case(fair_offer(rng)._replace(room=room), 0)
+        yield offer_in_year(fair_offer(rng)._replace(room=room), 0)
 
 
 def steps_at_random(rng):
-    """Accepted ones, ones with a byte changed, arbitrary ledgers, all balanced; beside them bytes that are no image."""
+    """Accepted ones, ones with a byte changed, arbitrary ledgers, all balanced; beside them such with any year."""
     for kind, climate in KINDS_AND_CLIMATES * 10:
         ledger = random_ledger(rng, kind, climate)
         data = write_record(random_record(rng, ledger.n, kind, climate))
-        yield step_case(ledger, data, expect=0)
-        yield step_case(ledger, data, expect=3, zeros=rng.randbytes(4))
+        yield step_in_year(ledger, data, expect=0)
+        yield any_year(rng, ledger, data)
     for _ in range(60):
         ledger, data = byte_changed(rng, fair_offer(rng), [*range(136), *range(200, 248)])
-        yield step_case(balanced(ledger), data, rng.choice((47, 48, 48, 48, 49)))
+        yield step_in_year(balanced(ledger), data, rng.choice((47, 48, 48, 48, 49)))
     for _ in range(60):
         ledger = arbitrary_ledger(rng)
         follower = write_record(follower_of(rng, ledger))
         data = rng.choice((rng.randbytes(BYTES), follower))
-        yield step_case(ledger, data)
-        yield step_case(ledger, data, expect=3, zeros=rng.randbytes(4))
+        yield step_in_year(ledger, data)
+        yield any_year(rng, ledger, data)
+
+
+def any_year(rng, ledger, data):
+    """One step of a ledger that remembers any four bytes: next to none of them are a year's factors."""
+    ledger = ledger._replace(year=cases.read_year(rng.randbytes(4)))
+    return step_case(ledger, data, expect=None if remembers(ledger) else 3)
 
 
 def byte_changed(rng, offer, places):
@@ -150,36 +136,37 @@ def follower_of(rng, ledger):
 
 def runs_by_rule(rng):
     """No bytes, room that ends, bytes left over, each fault of a record, and the last records that a ledger takes."""
-    unsound = balanced(Ledger(1, 1, 1, (0,) * 8, only(1, 1)))
-    for ledger in (FRESH, random_ledger(rng, 1, 2), unsound, Ledger(65535, 255, 255, ceilings(9), ceilings(9))):
-        yield run_case(ledger, b"", 0, (0, 0))
-        yield run_case(ledger, b"", 50, (0, 0))
+    unsound = balanced(Ledger(1, 1, 1, R=only(1, 1)))
+    beyond = Ledger(65535, 255, 255, NO_YEAR, ceilings(9), ceilings(9))
+    for ledger in (FRESH, random_ledger(rng, 1, 2), unsound, beyond):
+        yield run_in_year(ledger, b"", 0, (0, 0))
+        yield run_in_year(ledger, b"", 50, (0, 0))
     three = random_file(rng, 0, 2, 3, 3)
     for room in (0, 47, 48, 95, 96, 143):
-        yield run_case(FRESH, three, room, (room // BYTES, 2))
-        yield run_case(FRESH, three + b"\0", room, (room // BYTES, 2))
+        yield run_in_year(FRESH, three, room, (room // BYTES, 2))
+        yield run_in_year(FRESH, three + b"\0", room, (room // BYTES, 2))
     for room in (144, 191, 192):
-        yield run_case(FRESH, three, room, (3, 0))
-        yield run_case(FRESH, three + b"\0", room, (3, 1))
+        yield run_in_year(FRESH, three, room, (3, 0))
+        yield run_in_year(FRESH, three + b"\0", room, (3, 1))
     for length in (1, 47):
-        yield run_case(FRESH, three[:length], 0, (0, 1))
-        yield run_case(FRESH, three[: BYTES + length], BYTES, (1, 1))
-    yield run_case(unsound, three, 144, (0, 3))
-    yield run_case(unsound, three, 47, (0, 2))
+        yield run_in_year(FRESH, three[:length], 0, (0, 1))
+        yield run_in_year(FRESH, three[: BYTES + length], BYTES, (1, 1))
+    yield run_in_year(unsound, three, 144, (0, 3))
+    yield run_in_year(unsound, three, 47, (0, 2))
     for fault in FAULTS:
         if fault.number >= 5:
             yield fault_after_one(rng, fault)
     for kind, climate in KINDS_AND_CLIMATES:
         ledger = random_ledger(rng, kind, climate, 1197)
-        yield run_case(ledger, random_file(rng, 1197, kind, climate, 3), 144, (3, 0))
-        yield run_case(ledger, random_file(rng, 1197, kind, climate, 5), 240, (3, 4))
-    yield run_case(FRESH, random_file(rng, 0, 1, 2, RECORDS + 1), 2**32 - 1, (RECORDS, 4))
+        yield run_in_year(ledger, random_file(rng, 1197, kind, climate, 3), 144, (3, 0))
+        yield run_in_year(ledger, random_file(rng, 1197, kind, climate, 5), 240, (3, 4))
+    yield run_in_year(FRESH, random_file(rng, 0, 1, 2, RECORDS + 1), 2**32 - 1, (RECORDS, 4))
     greatest = [greatest_record(n, 2, 4) for n in range(RECORDS)]
-    yield run_case(FRESH, b"".join(map(write_record, greatest)), BYTES * RECORDS, (RECORDS, 0))
+    yield run_in_year(FRESH, file_of(greatest), BYTES * RECORDS, (RECORDS, 0))
     for place in range(4):
-        zeros = bytes(replaced((0,) * 4, place, 1))
-        yield run_case(FRESH, three, 144, (0, 3), zeros)
-        yield run_case(FRESH, b"", 50, (0, 0), zeros)
+        unsound = FRESH._replace(year=cases.read_year(bytes(replaced((0,) * 4, place, 1))))
+        yield run_case(unsound, three, 144, (0, 3))
+        yield run_case(unsound, b"", 50, (0, 0))
 
 
 def fault_after_one(rng, fault):
@@ -188,7 +175,7 @@ def fault_after_one(rng, fault):
     after, _ = reference.take(first.ledger, first.record)
     second = applied(Offer(after, first.record._replace(period=after.n + 1)), [fault])
     third = first.record._replace(period=after.n + 2)
-    return run_case(first.ledger, first.data() + second.data() + write_record(third), 150, (1, fault.number))
+    return run_in_year(first.ledger, first.data() + second.data() + write_record(third), 150, (1, fault.number))
 
 
 def runs_at_random(rng):
@@ -197,15 +184,15 @@ def runs_at_random(rng):
         ledger = rng.choice((FRESH, random_ledger(rng, kind, climate)))
         records = rng.choice((1, 2, 3, 4, 5, 8, 13))
         room = BYTES * records + rng.choice((0, 1, 20))
-        yield run_case(ledger, random_file(rng, ledger.n, kind, climate, records), room, (records, 0))
+        yield run_in_year(ledger, random_file(rng, ledger.n, kind, climate, records), room, (records, 0))
     for kind, climate in KINDS_AND_CLIMATES * 20:
         ledger = rng.choice((FRESH, random_ledger(rng, kind, climate)))
         records = rng.randint(1, 6)
         room = rng.choice((BYTES * records, BYTES * records + 70, rng.randint(0, BYTES * records)))
-        yield run_case(ledger, damaged(rng, random_file(rng, ledger.n, kind, climate, records)), room)
+        yield run_in_year(ledger, damaged(rng, random_file(rng, ledger.n, kind, climate, records)), room)
     for _ in range(20):
         ledger = arbitrary_ledger(rng)
-        yield run_case(ledger, random_file(rng, ledger.n % 1200, 1, 1, 2), 100)
+        yield run_in_year(ledger, random_file(rng, ledger.n % 1200, 1, 1, 2), 100)
 
 
 def listings(rng):
@@ -215,7 +202,7 @@ def listings(rng):
         yield case("l", damaged(rng, data))
     yield case("l", b"\1")
     yield case("l", rng.randbytes(100))
-    yield case("l", b"".join(write_record(greatest_record(n, 1, 4)) for n in range(RECORDS + 1)))
+    yield case("l", file_of(greatest_record(n, 1, 4) for n in range(RECORDS + 1)))
 
 
 def base(rng):

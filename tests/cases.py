@@ -8,30 +8,28 @@ from collections.abc import Callable
 from typing import NamedTuple
 
 import reference
-from reference import Ledger, number
+from reference import Ledger, Year, number
 
 LONGEST = 65536  # bytes of a payload, and of an output buffer
 IMAGE = 200  # bytes of a ledger image
 
 
-NO_LEDGER = Ledger(65535, 0, 0)  # what bytes that are no image count as: unsound, with too many records
-
-
-def image(ledger, zeros=bytes(4)):
-    """The 200 bytes of a ledger; with other bytes than zeros between climate and T they are no image."""
-    head = reference.little([(ledger.n, 2), (ledger.kind, 1), (ledger.climate, 1)])
-    return head + zeros + reference.little((value, 8) for value in ledger.T + ledger.R + ledger.released)
+def image(ledger):
+    """The 200 bytes of a ledger."""
+    factor, site_class, f = ledger.year
+    head = [(ledger.n, 2), (ledger.kind, 1), (ledger.climate, 1), (factor, 1), (site_class, 1), (f, 2)]
+    return reference.little(head + [(value, 8) for value in ledger.T + ledger.R + ledger.released])
 
 
 def read_image(data):
-    """The ledger that 200 bytes say, whatever stands between climate and T."""
+    """The ledger of the image that stands first in some bytes."""
     carbon = (tuple(number(data, at + 8 * j, 8) for j in range(8)) for at in (8, 72, 136))
-    return Ledger(number(data, 0, 2), data[2], data[3], *carbon)
+    return Ledger(number(data, 0, 2), data[2], data[3], read_year(data[4:8]), *carbon)
 
 
-def ledger_of(data):
-    """The ledger of the image that stands first in a payload."""
-    return NO_LEDGER if any(data[4:8]) else read_image(data)
+def read_year(data):
+    """The year's factors, as four bytes of an image say."""
+    return Year(data[0], data[1], number(data, 2, 2))
 
 
 def case(letter, payload):
@@ -45,14 +43,14 @@ def decay_line(payload):
 
 def step_line(payload):
     lent = b"\xa5" * number(payload, 200, 2)
-    answer = reference.step(ledger_of(payload), payload[202:], lent)
+    answer = reference.step(read_image(payload), payload[202:], lent)
     numbers = [answer.refusal, *fields(answer.ledger), *answer.releases, answer.x0, answer.figure, answer.bound]
     return spaced(numbers) + " " + hexed(answer.output)
 
 
 def run_line(payload):
     lent = b"\xa5" * min(number(payload, 200, 4), LONGEST)
-    answer = reference.run(ledger_of(payload), payload[204:], lent)
+    answer = reference.run(read_image(payload), payload[204:], lent)
     return spaced([answer.accepted, answer.refusal, *fields(answer.ledger)]) + " " + hexed(answer.output)
 
 
@@ -75,7 +73,7 @@ def masses_line(payload):
 
 
 def fields(ledger):
-    return [ledger.n, ledger.kind, ledger.climate, *ledger.T, *ledger.R, *ledger.released]
+    return [ledger.n, ledger.kind, ledger.climate, *ledger.year, *ledger.T, *ledger.R, *ledger.released]
 
 
 def spaced(numbers):

@@ -1,9 +1,11 @@
 """Records, files and ledgers to offer: at random, and at the limits of document 01."""
-from reference import BYTES, CLIMATES, DOC, FRESH, KINDS, MASS_LIMIT, NONE, Ledger, Record, take, write_record
+from reference import BYTES, CLIMATES, DOC, FRESH, KINDS, MASS_LIMIT, MONTHLY, MONTHS, NO_YEAR, NONE, Ledger, Record
+from reference import Year, read_record, records_of, remembers, take, write_record, year_of
 
 PLACES = range(8)
 KINDS_AND_CLIMATES = [(kind, climate) for kind in KINDS for climate in CLIMATES]
 PLAIN = Record(1, 1, 4, 75, 10, 50, 50, 1, 28, 0, bytes(4), (0,) * 8)  # the factors of document 01's listing, no waste
+RANGES = {"factor": (1, 100), "site_class": (1, 4), "f": (0, 10000)}  # of the year's factors
 
 
 def replaced(eight, j, value):
@@ -32,13 +34,23 @@ def greatest_record(n, kind, climate):
     return Record(n + 1, kind, climate, 100, 0, 100, 100, 1, 100, 0, bytes(4), (MASS_LIMIT,) * 8)
 
 
+def file_of(records):
+    """The bytes of records one after another."""
+    return b"".join(map(write_record, records))
+
+
+def whole_records(data):
+    """The fields of the whole records in a file."""
+    return [read_record(part) for part in records_of(data) if len(part) == BYTES]
+
+
 def random_masses(rng):
     top = rng.choice((1, 50, 10**5, MASS_LIMIT))
     return tuple(rng.choice((0, rng.randint(0, top), rng.randint(0, top), top)) for _ in PLACES)
 
 
 def random_record(rng, n, kind, climate):
-    """A record that a sound ledger with n records of this kind and climate accepts."""
+    """A record that a sound ledger with n records of this kind and climate accepts; a month where it begins a year."""
     factor, GWP, OX, F, DOCf = (rng.choice((1, 100, rng.randint(1, 100))) for _ in range(5))
     f = rng.choice((0, rng.randint(0, 10000), rng.randint(0, 10000), 9999))
     site_class, masses = rng.randint(1, 4), random_masses(rng)
@@ -46,8 +58,8 @@ def random_record(rng, n, kind, climate):
 
 
 def random_file(rng, n, kind, climate, records):
-    """The bytes of records that follow n others."""
-    return b"".join(write_record(random_record(rng, n + i, kind, climate)) for i in range(records))
+    """The bytes of records that follow n others; months of one year each have factors of their own."""
+    return file_of(random_record(rng, n + i, kind, climate) for i in range(records))
 
 
 def damaged(rng, data):
@@ -63,12 +75,16 @@ def damaged(rng, data):
     return rng.choice(changes)
 
 
+def taken(ledger, records):
+    """The ledger after records, also where it would refuse them."""
+    for record in records:
+        ledger, _ = take(ledger, record)
+    return ledger
+
+
 def lived(rng, kind, climate, periods):
     """The ledger after that many records."""
-    ledger = FRESH
-    for n in range(periods):
-        ledger, _ = take(ledger, random_record(rng, n, kind, climate))
-    return ledger
+    return taken(FRESH, (random_record(rng, n, kind, climate) for n in range(periods)))
 
 
 def random_ledger(rng, kind, climate, n=None):
@@ -77,4 +93,54 @@ def random_ledger(rng, kind, climate, n=None):
         return lived(rng, kind, climate, rng.randint(1, 20))
     n = n or rng.choice((1, 2, 255, 256, rng.randint(1, 1180)))
     T = tuple(rng.randint(0, top) >> rng.choice((0, 0, 10, 40, 64)) for top in ceilings(n))
-    return balanced(Ledger(n, kind, climate, T, tuple(rng.choice((0, t, rng.randint(0, t))) for t in T)))
+    R = tuple(rng.choice((0, t, rng.randint(0, t))) for t in T)
+    return balanced(Ledger(n, kind, climate, plain_year(kind), T, R))
+
+
+def plain_year(kind):
+    """What a ledger of this kind may remember."""
+    return year_of(PLAIN) if kind == MONTHLY else NO_YEAR
+
+
+def in_year_of(ledger, data):
+    """The ledger in the year of a file's first record: a monthly one remembers its factors, or plain ones."""
+    if ledger.kind != MONTHLY or ledger.n == 0:
+        return ledger._replace(year=NO_YEAR)
+    firsts = *whole_records(data[:BYTES]), PLAIN
+    return next(filter(remembers, (ledger._replace(year=year_of(first)) for first in firsts)))
+
+
+def sharing(record, year):
+    """The record with the factors of a year."""
+    return record._replace(**year._asdict())
+
+
+def next_record(rng, ledger, kind, climate):
+    """A record that a sound ledger of this kind and climate accepts."""
+    record = random_record(rng, ledger.n, kind, climate)
+    return sharing(record, ledger.year) if kind == MONTHLY and ledger.n % MONTHS else record
+
+
+def next_records(rng, ledger, kind, climate, count):
+    """So many records that it accepts one after another."""
+    records = []
+    for _ in range(count):
+        records.append(next_record(rng, ledger, kind, climate))
+        ledger = taken(ledger, records[-1:])
+    return records
+
+
+def random_year(rng):
+    return Year(*(rng.randint(low, high) for low, high in RANGES.values()))
+
+
+def moved(values, field, shift):
+    """A record or a year with one value so much further in its range, where the least follows the most."""
+    low, high = RANGES[field]
+    return values._replace(**{field: low + (getattr(values, field) - low + shift) % (high - low + 1)})
+
+
+def another(rng, values, field):
+    """The same with any other value of the range."""
+    low, high = RANGES[field]
+    return moved(values, field, rng.randint(1, high - low))

@@ -1,7 +1,7 @@
 #!/usr/bin/env python3
 """Writes cases for the program `cases` (docs/CASES.md), and the lines that the reference gives for them.
 
-  make_cases.py [--group base|door|samples|released|all] [--seed N] [--out DIR]
+  make_cases.py [--group base|door|samples|released|months|all] [--seed N] [--out DIR]
   make_cases.py --store
   make_cases.py --check
 
@@ -20,12 +20,13 @@ import cases
 from base_cases import base
 from cases import case
 from door_cases import door
+from months_cases import months
 from reference import listing, little
 from released_cases import released
 from samples_cases import samples
 
 ROOT = os.path.join(os.path.dirname(os.path.abspath(__file__)), "..")
-GROUPS = {"base": [base], "door": [door], "samples": [samples], "released": [released]}
+GROUPS = {"base": [base], "door": [door], "samples": [samples], "released": [released], "months": [months]}
 GROUPS["all"] = [cases_of for group in GROUPS.values() for cases_of in group]
 FIRST = case("d", b"\1\1\0")
 STOPS = {

@@ -1,4 +1,4 @@
-"""Document 01 with requests a and b of document 02 worked out a second time, to run the Rattle code against.
+"""Document 01 with requests a, b and c of document 02 worked out a second time, to run the Rattle code against.
 
 One function for each rule, in the documents' order and with their letters. Numbers are exact, and everything is a
 value: an output buffer goes in as bytes and comes back as bytes. Type j stands at place j - 1 of every list of eight.
@@ -17,6 +17,7 @@ RECORDS = 1200  # a ledger takes no more
 BYTES = 48  # of a record, and of an output record
 MASS_LIMIT = 10**9  # kg
 KINDS, CLIMATES, CLASSES = (1, 2), (1, 2, 3, 4), (1, 2, 3, 4)
+YEARLY, MONTHLY = KINDS
 NONE = (0,) * 8
 
 
@@ -92,10 +93,20 @@ def little(numbers):
 # "One step"
 
 
+class Year(NamedTuple):
+    factor: int = 0
+    site_class: int = 0
+    f: int = 0
+
+
+NO_YEAR = Year()
+
+
 class Ledger(NamedTuple):
     n: int = 0
     kind: int = 0
     climate: int = 0
+    year: Year = NO_YEAR  # the year's factors, in a monthly run
     T: tuple = NONE  # mg brought in, for each type
     R: tuple = NONE  # mg left, for each type
     released: tuple = NONE  # mg released so far, for each type
@@ -128,7 +139,7 @@ def take(ledger, record):
     R = tuple(h * d // 10**9 for h, d in zip(H, D))
     G = tuple(h - r for h, r in zip(H, R))
     released = tuple(so_far + g for so_far, g in zip(ledger.released, G))
-    return Ledger(ledger.n + 1, record.kind, record.climate, T, R, released), G
+    return Ledger(ledger.n + 1, record.kind, record.climate, year_after(ledger, record), T, R, released), G
 
 
 def figure_of(record, x0):
@@ -206,6 +217,7 @@ def sound(ledger):
         and all(t <= ledger.n * MASS_LIMIT * doc * 100 for t, doc in zip(ledger.T, DOC))
         and all(r <= t for r, t in zip(ledger.R, ledger.T))
         and all(released + r == t for released, r, t in zip(ledger.released, ledger.R, ledger.T))
+        and remembers(ledger)
     )
 
 
@@ -240,6 +252,8 @@ def refusal_of(ledger, data, room):
         return 7
     if not in_range(record):
         return 8
+    if not repeats_year(ledger, record):
+        return 17
     if any(mass > MASS_LIMIT for mass in record.masses):
         return 9
     return 0
@@ -345,3 +359,36 @@ def masses(kind, total, samples):
     P = accumulate(map(sum, zip(*fractions)), initial=0)
     up_to = [total * part // (WHOLE * len(fractions)) for part in P]
     return 0, tuple(upper - lower for lower, upper in pairwise(up_to))
+
+
+# Document 02, request c: months of one year share the year's factors
+
+MONTHS = 12  # of a year
+
+
+def year_of(record):
+    """The three values of a record that the months of its year share."""
+    return Year(record.factor, record.site_class, record.f)
+
+
+def begins_year(ledger):
+    """Whether the next record of a monthly run is one of the records 12q + 1."""
+    return ledger.n % MONTHS == 0
+
+
+def year_after(ledger, record):
+    """What the ledger remembers after an accepted record: in a monthly run the values of the last record 12q + 1."""
+    return year_of(record) if record.kind == MONTHLY and begins_year(ledger) else ledger.year
+
+
+def repeats_year(ledger, record):
+    """Whether refusal 17 does not hold."""
+    return record.kind != MONTHLY or begins_year(ledger) or year_of(record) == ledger.year
+
+
+def remembers(ledger):
+    """Whether refusal 3 does not hold for what a ledger with n above 0 remembers; a yearly one remembers nothing."""
+    factor, site_class, f = ledger.year
+    if ledger.kind != MONTHLY:
+        return ledger.year == NO_YEAR
+    return 1 <= factor <= 100 and site_class in CLASSES and f <= 10000

@@ -2,12 +2,13 @@
 
 A case built for a refusal is an error here where the reference answers another.
 """
+import cases
 import faults
-import reference
-from base_cases import arbitrary_ledger, byte_changed, fair_offer, follower_of, offer_case, run_case, step_case
+from base_cases import arbitrary_ledger, byte_changed, fair_offer, follower_of
+from built import offer_in_year, run_in_year, step_case, step_in_year
 from faults import LAST, Fault, Offer, applied, not_fresh
-from histories import KINDS_AND_CLIMATES, PLACES, PLAIN, balanced, ceilings, damaged, lived, only, random_file
-from histories import random_record, replaced
+from histories import KINDS_AND_CLIMATES, PLACES, PLAIN, balanced, ceilings, damaged, file_of, lived, only
+from histories import plain_year, random_file, random_record, replaced, taken, whole_records
 from reference import BYTES, FRESH, MASS_LIMIT, NONE, RECORDS, Ledger, little, write_record
 
 
@@ -15,7 +16,8 @@ def half_spent(rng, kind, climate):
     """A ledger in the middle of its history: of every type but the sixth some carbon is left and some released."""
     n = rng.choice((1, 2, rng.randint(3, RECORDS - 10)))
     T = tuple(rng.randint(2, top) if top else 0 for top in ceilings(n))
-    return balanced(Ledger(n, kind, climate, T, tuple(rng.randint(1, t - 1) if t else 0 for t in T)))
+    R = tuple(rng.randint(1, t - 1) if t else 0 for t in T)
+    return balanced(Ledger(n, kind, climate, plain_year(kind), T, R))
 
 
 def spent_offer(rng):
@@ -25,7 +27,7 @@ def spent_offer(rng):
 
 def in_carbon(change):
     """Another T, R and released, worked out from these."""
-    return Fault(3, "released", lambda o: o._replace(ledger=Ledger(*o.ledger[:3], *change(*o.ledger[3:]))))
+    return Fault(3, "released", lambda o: o._replace(ledger=Ledger(*o.ledger[:4], *change(*o.ledger[4:]))))
 
 
 def off_by(shifts):
@@ -71,11 +73,11 @@ NOT_FRESH = [
 def at_fault(rng):
     """Each fault alone, and one of them beside each other fault, for the order of refusals."""
     for fault in NOT_ADDED_UP + OVER + NOT_FRESH:
-        yield offer_case(applied(spent_offer(rng), [fault]), 3)
+        yield offer_in_year(applied(spent_offer(rng), [fault]), 3)
     for fault in faults.FAULTS:
         if fault.field not in ("T", "R"):
             pair = fault, rng.choice(NOT_ADDED_UP)
-            yield offer_case(applied(spent_offer(rng), pair), min(fault.number, 3))
+            yield offer_in_year(applied(spent_offer(rng), pair), min(fault.number, 3))
 
 
 def sound(rng):
@@ -89,7 +91,7 @@ def sound(rng):
         j = rng.choice(PLACES)
         ledgers += [ledger._replace(R=replaced(R, j, released[j]), released=replaced(released, j, R[j]))]
         for each in ledgers:
-            yield step_case(each, write_record(random_record(rng, n, kind, climate)), expect=0)
+            yield step_in_year(each, write_record(random_record(rng, n, kind, climate)), expect=0)
 
 
 def in_parts(rng):
@@ -98,12 +100,12 @@ def in_parts(rng):
         data, ledger = random_file(rng, 0, kind, climate, 7), FRESH
         for at in range(0, 4 * BYTES, BYTES):
             record = data[at : at + BYTES]
-            yield step_case(ledger, record, expect=0)
-            yield step_case(ledger, damaged(rng, record))
-            ledger = reference.step(ledger, record, bytes(BYTES)).ledger
-        yield run_case(FRESH, data, len(data), (7, 0))
-        yield run_case(FRESH, data[: 4 * BYTES], 4 * BYTES, (4, 0))
-        yield run_case(ledger, data[4 * BYTES :], 3 * BYTES, (3, 0))
+            yield step_in_year(ledger, record, expect=0)
+            yield step_in_year(ledger, damaged(rng, record))
+            ledger = taken(ledger, whole_records(record))
+        yield run_in_year(FRESH, data, len(data), (7, 0))
+        yield run_in_year(FRESH, data[: 4 * BYTES], 4 * BYTES, (4, 0))
+        yield run_in_year(ledger, data[4 * BYTES :], 3 * BYTES, (3, 0))
 
 
 def stopped(rng):
@@ -111,18 +113,18 @@ def stopped(rng):
     for j, (kind, climate) in enumerate(KINDS_AND_CLIMATES):
         ledger = half_spent(rng, kind, climate)
         data = random_file(rng, ledger.n, kind, climate, 3)
-        yield run_case(ledger, data + data[: rng.randint(1, 47)], 4 * BYTES, (3, 1))
-        yield run_case(ledger, data, 2 * BYTES + rng.randrange(BYTES), (2, 2))
-        after = reference.run(ledger, data, bytes(len(data))).ledger
+        yield run_in_year(ledger, data + data[: rng.randint(1, 47)], 4 * BYTES, (3, 1))
+        yield run_in_year(ledger, data, 2 * BYTES + rng.randrange(BYTES), (2, 2))
+        after = taken(ledger, whole_records(data))
         follower = Offer(after, random_record(rng, after.n, kind, climate))
         for number in range(5, 10):
             fault = rng.choice([fault for fault in faults.FAULTS if fault.number == number])
             last = applied(follower, [fault]).data()
-            yield run_case(ledger, data + last + follower.data(), 4 * BYTES, (3, number))
+            yield run_in_year(ledger, data + last + follower.data(), 4 * BYTES, (3, number))
         unsound = one_off(rng, ledger, j)
-        yield run_case(unsound, data, 3 * BYTES, (0, 3))
-        yield run_case(unsound, data, BYTES - 1, (0, 2))
-        yield run_case(unsound, b"", BYTES, (0, 0))
+        yield run_in_year(unsound, data, 3 * BYTES, (0, 3))
+        yield run_in_year(unsound, data, BYTES - 1, (0, 2))
+        yield run_in_year(unsound, b"", BYTES, (0, 0))
 
 
 def up_to_the_last(rng):
@@ -130,11 +132,11 @@ def up_to_the_last(rng):
     for kind, climate in KINDS_AND_CLIMATES:
         ledger = lived(rng, kind, climate, RECORDS - 2)
         data = random_file(rng, ledger.n, kind, climate, 3)
-        yield run_case(ledger, data[: 2 * BYTES], 2 * BYTES, (2, 0))
-        yield run_case(ledger, data, 3 * BYTES, (2, 4))
-        full = reference.run(ledger, data, bytes(len(data))).ledger
-        yield step_case(full, data[2 * BYTES :], expect=4)
-        yield step_case(one_off(rng, full, rng.choice(PLACES)), data[2 * BYTES :], expect=3)
+        yield run_in_year(ledger, data[: 2 * BYTES], 2 * BYTES, (2, 0))
+        yield run_in_year(ledger, data, 3 * BYTES, (2, 4))
+        full = taken(ledger, whole_records(data[: 2 * BYTES]))
+        yield step_in_year(full, data[2 * BYTES :], expect=4)
+        yield step_in_year(one_off(rng, full, rng.choice(PLACES)), data[2 * BYTES :], expect=3)
 
 
 def one_off(rng, ledger, j):
@@ -148,27 +150,27 @@ def inert(rng):
         for ledger in (FRESH, half_spent(rng, kind, climate)):
             plain = PLAIN._replace(kind=kind, climate=climate)
             records = [plain._replace(period=ledger.n + i, masses=only(6, MASS_LIMIT)) for i in (1, 2)]
-            yield run_case(ledger, b"".join(map(write_record, records)), 2 * BYTES, (2, 0))
+            yield run_in_year(ledger, file_of(records), 2 * BYTES, (2, 0))
 
 
 def at_random(rng):
-    """A byte changed anywhere, R and released exchanged with and without a fault, any carbon at all, and no images."""
+    """A byte changed, R and released exchanged with and without a fault, any carbon at all, one byte of a year."""
     for _ in range(60):
         ledger, data = byte_changed(rng, spent_offer(rng), range(248))
-        yield step_case(ledger, data)
+        yield step_in_year(ledger, data)
     for _ in range(60):
         offer = spent_offer(rng)
         ledger = offer.ledger._replace(R=offer.ledger.released, released=offer.ledger.R)
-        yield step_case(rng.choice((ledger, one_off(rng, ledger, rng.choice(PLACES)))), offer.data())
+        yield step_in_year(rng.choice((ledger, one_off(rng, ledger, rng.choice(PLACES)))), offer.data())
     for _ in range(40):
         ledger = arbitrary_ledger(rng)
         ledger = rng.choice((ledger, ledger._replace(released=tuple(rng.randrange(2**64) for _ in PLACES))))
         data = write_record(follower_of(rng, ledger))
-        yield step_case(ledger, data)
-        yield run_case(ledger, data, BYTES)
+        yield step_in_year(ledger, data)
+        yield run_in_year(ledger, data, BYTES)
     for place in range(4):
-        zeros = little([(rng.randint(1, 255) << 8 * place, 4)])
-        yield step_case(spent_offer(rng).ledger, write_record(PLAIN), expect=3, zeros=zeros)
+        year = cases.read_year(little([(rng.randint(1, 255) << 8 * place, 4)]))
+        yield step_case(spent_offer(rng).ledger._replace(year=year), write_record(PLAIN), expect=3)
 
 
 def released(rng):

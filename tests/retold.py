@@ -119,6 +119,20 @@ def step(ledger, record):
     return T, R, gone, G, sum(G), figure(record, sum(G)), bound(record, ledger.n + 1, T)
 
 
+def years_of(records, kind):
+    """The values of φ, site class and f in each year of a run: 000 has one a year (paragraph 24, equation (2))."""
+    years = {}
+    for x, record in enumerate(records):
+        years.setdefault(x // PERIODS[kind], set()).add((record.factor, record.site_class, record.f))
+    return list(years.values())
+
+
+def remembered(records, kind):
+    """What is known of the year that a monthly run is in; by year nothing is, as every record is a year of its own."""
+    (known,) = years_of(records, kind)[-1]
+    return known if PERIODS[kind] > 1 else (0, 0, 0)
+
+
 def mean_shares(W, samples):
     """Equations (5) to (8): W times p of each type, where p is the mean of its fractions, with no rounding."""
     Z = len(samples)

@@ -1,7 +1,7 @@
 #!/usr/bin/env python3
 """Holds the reference to all that document 01 prints, to the sources' own tables and equations, and to demand 3.
 
-Of document 02 it holds masses from samples, and the carbon released so far.
+Of document 02 it holds masses from samples, the carbon released so far, and months that share the year's factors.
 
 Prints ok and exits 0, or stops at the first check that fails.
 """
@@ -15,27 +15,17 @@ from math import factorial
 
 import cases
 import decay_tables
+import months_checks
 import reference
 import retold
 import samples_cases
+from checks import NO_VALUES, NOTHING, ROOM, check, offered
 from faults import applied
-from histories import KINDS_AND_CLIMATES, PLAIN, balanced, damaged, only, random_file, random_record, replaced
-from reference import FRESH, Ledger, Record, decay, deposits, rates, read_record, step, write_record
+from histories import KINDS_AND_CLIMATES, PLAIN, balanced, damaged, file_of, next_record, next_records, only, replaced
+from reference import FRESH, Ledger, Record, Year, decay, deposits, rates, read_record, step, write_record
 from samples_cases import fair_sorting
 
 HERE = os.path.dirname(os.path.abspath(__file__))
-ROOM = bytes(48)
-NOTHING = (0, 0, 0, 0, 0, 0, 0, 0)
-
-
-def check(name, found, wanted):
-    if found != wanted:
-        raise SystemExit(f"{name}: {found} where {wanted} should stand")
-
-
-def offered(ledger=FRESH, **changes):
-    """The answer to a plain record with some fields changed."""
-    return step(ledger, write_record(PLAIN._replace(**changes)), ROOM)
 
 
 def constants():
@@ -47,7 +37,7 @@ def constants():
     limits = reference.RECORDS, reference.BYTES, reference.MASS_LIMIT
     check("limits", limits, (1200, 48, 1_000_000_000))
     check("codes", (reference.KINDS, reference.CLIMATES, reference.CLASSES), ((1, 2), (1, 2, 3, 4), (1, 2, 3, 4)))
-    check("a fresh ledger", FRESH, (0, 0, 0, NOTHING, NOTHING, NOTHING))
+    check("a fresh ledger", FRESH, (0, 0, 0, NO_VALUES, NOTHING, NOTHING, NOTHING))
 
 
 def tables():
@@ -94,7 +84,7 @@ def refused():
         check(f"room for {room} bytes", (answer.refusal, answer.output[48:]), (number, b"\xa5" * max(room - 48, 0)))
     for n, number in [(1, 0), (2, 0), (1199, 0), (1200, 4), (1201, 3), (65535, 3)]:
         full = tuple(map(int, retold.carbon((n * 10**9,) * 8)))
-        sound = Ledger(n, 1, 4, full, full)
+        sound = Ledger(n, 1, 4, NO_VALUES, full, full)
         check(f"{n} records", offered(sound, period=(n + 1) % 2**16).refusal, number)
         for place in range(8):
             more = replaced(full, place, full[place] + 1)
@@ -102,7 +92,8 @@ def refused():
             check("R over T", offered(balanced(sound._replace(R=more)), period=2).refusal, 3)
     one = FRESH._replace(n=1, kind=1, climate=4)
     for code in range(256):
-        check(f"kind {code} of a ledger", offered(one._replace(kind=code), period=2).refusal, {1: 0, 2: 7}.get(code, 3))
+        other = one._replace(kind=code, year=(75, 1, 0) if code == 2 else NO_VALUES)
+        check(f"kind {code} of a ledger", offered(other, period=2).refusal, {1: 0, 2: 7}.get(code, 3))
         number = 0 if code == 4 else 7 if 1 <= code <= 3 else 3
         check(f"climate {code} of a ledger", offered(one._replace(climate=code), period=2).refusal, number)
     mg = only(2, 1)
@@ -130,10 +121,10 @@ def added_up():
         (last - 1, last, last, 3),
     ]:
         for place in range(1, 9):
-            ledger = Ledger(1, 1, 4, *(only(place, carbon) for carbon in (T, R, released)))
+            ledger = Ledger(1, 1, 4, NO_VALUES, *(only(place, carbon) for carbon in (T, R, released)))
             wanted = 3 if place == 6 and T > 0 else number
             check(str(ledger), offered(ledger, period=2).refusal, wanted)
-    across = Ledger(1, 1, 4, (9,) * 5 + (0, 9, 9), (4,) * 5 + (0, 4, 4), (6, 4, 5, 5, 5, 0, 5, 5))
+    across = Ledger(1, 1, 4, NO_VALUES, (9,) * 5 + (0, 9, 9), (4,) * 5 + (0, 4, 4), (6, 4, 5, 5, 5, 0, 5, 5))
     check("added up only over all types", offered(across, period=2).refusal, 3)
     for n, length, room, number in [(1, 47, 47, 1), (1, 48, 47, 2), (1, 48, 48, 3), (1200, 48, 48, 3)]:
         check(f"the order of {number}", step(across._replace(n=n), bytes(length), bytes(room)).refusal, number)
@@ -161,7 +152,7 @@ def worked_figures():
 
 def run_only():
     check("f 10000", offered(f=10000, masses=(10**9,) * 8).figure, 0)
-    file = b"".join(write_record(PLAIN._replace(period=n, masses=(n,) * 8)) for n in range(1, 1202))
+    file = file_of(PLAIN._replace(period=n, masses=(n,) * 8) for n in range(1, 1202))
     check("record 1200", reference.run(FRESH, file[:-48], file)[1:3], (1200, 0))
     check("record 1201", reference.run(FRESH, file, file)[1:3], (1200, 4))
     check("no bytes", (reference.listing(b""), reference.run(FRESH, b"", b"")), ("", (FRESH, 0, 0, b"")))
@@ -169,7 +160,7 @@ def run_only():
 
 def listing_sample():
     periods = [(1, 1000), (2, 0), (5, 0)]
-    file = b"".join(write_record(PLAIN._replace(period=n, masses=only(3, kg))) for n, kg in periods)
+    file = file_of(PLAIN._replace(period=n, masses=only(3, kg)) for n, kg in periods)
     wanted = "1 49451994 311547 3 100548006\n2 33148662 208836 3 67399344\nrefused 6 at record 3\n"
     check("listing", reference.listing(file), wanted)
 
@@ -214,7 +205,7 @@ def fields_of(data):
 def told_again(ledger, data, answer):
     """An accepted record's step and its output record, each told a second time."""
     record = fields_of(data)
-    n, kind, climate, T, R, released = answer.ledger
+    n, kind, climate, _, T, R, released = answer.ledger
     check("ledger", (n, kind, climate), (ledger.n + 1, record.kind, record.climate))
     check("step", (T, R, released, *answer[2:6]), retold.step(ledger, record))
     numbers = *answer[3:6], sum(R), sum(T)
@@ -225,7 +216,7 @@ def told_again(ledger, data, answer):
 def unlikely():
     """What no accepted record shows: every byte of a record another, and a ledger of a milligram of each type."""
     fields_of(bytes(range(1, 49)))
-    ledger = Ledger(1, 1, 4, *[replaced((1,) * 8, 5, 0)] * 2)
+    ledger = Ledger(1, 1, 4, NO_VALUES, *[replaced((1,) * 8, 5, 0)] * 2)
     data = write_record(PLAIN._replace(period=2, GWP=100))
     told_again(ledger, data, step(ledger, data, ROOM))
 
@@ -244,7 +235,7 @@ def demand_3(rng, kind, climate, part):
     d = [(decay(kind, rate) + part) / 10**9 if rate else Fraction(0) for rate in rates(climate)]
     ledger, brought, released, stock = FRESH, [()] * 8, [0] * 8, [Fraction(0)] * 8
     for _ in range(30):
-        data = write_record(random_record(rng, ledger.n, kind, climate))
+        data = write_record(next_record(rng, ledger, kind, climate))
         data = damaged(rng, data) if rng.random() < 0.2 else data
         answer = step(ledger, data, ROOM)
         if answer.refusal:
@@ -267,7 +258,7 @@ def demand_3(rng, kind, climate, part):
 
 def reread(rng, kind, climate):
     """A run, also one that stops, leaves released what x0 of its output records comes to, and type 6 nothing."""
-    ledger, output, file = FRESH, b"", random_file(rng, 0, kind, climate, 20)
+    ledger, output, file = FRESH, b"", file_of(next_records(rng, FRESH, kind, climate, 20))
     for part in (file[:240], damaged(rng, file[240:])):
         answer = reference.run(ledger, part, bytes(len(part) + 48))
         ledger, output = answer.ledger, output + answer.output[: 48 * answer.accepted]
@@ -329,6 +320,14 @@ def sampled(sorting):
         check(f"{mass} for {share}", share - 1 < mass < share + 1, True)
 
 
+def image():
+    """A ledger image with every byte another, by Python's own means."""
+    data = bytes(range(200))
+    n, kind, climate, factor, site_class, f, *carbon = struct.unpack("<H4BH24Q", data)
+    ledger = Ledger(n, kind, climate, Year(factor, site_class, f), *(tuple(carbon[at : at + 8]) for at in (0, 8, 16)))
+    check("image", (cases.image(ledger), cases.read_image(data)), (data, ledger))
+
+
 def cases_page():
     """The examples of docs/CASES.md: a case as hex, where 00*200 is a byte repeated, and its line below."""
     with open(os.path.join(HERE, "..", "docs", "CASES.md"), encoding="utf-8") as page:
@@ -350,14 +349,20 @@ def main():
     door()
     samples_counted()
     samples_added_up()
+    months_checks.years_begin()
+    months_checks.within_ranges()
+    months_checks.in_order()
     tables()
     unlikely()
+    image()
     rng = random.Random(1)
     for kind, climate in KINDS_AND_CLIMATES:
         for part in (Fraction(0), Fraction(rng.randint(1, 98), 99), 1 - Fraction(1, 10**9), 1 - Fraction(1, 10**40)):
             demand_3(rng, kind, climate, part)
     for kind, climate in KINDS_AND_CLIMATES * 4:
         reread(rng, kind, climate)
+    for kind, climate in KINDS_AND_CLIMATES:
+        months_checks.shared(rng, kind, climate)
     samples_at_fault(rng)
     for kind, Z in [(2, 3)] * 300 + [(1, rng.randint(12, 40)) for _ in range(50)] + [(1, 400)] * 3:
         sampled(fair_sorting(rng, kind, Z))

@@ -1,0 +1,61 @@
+"""Cases of steps and runs, each built for its answer: one that the reference does not give is an error here.
+
+Those in a year take a ledger without regard to what it remembers, and put it into the year of the first record offered.
+"""
+import cases
+import reference
+from cases import case
+from histories import in_year_of, whole_records
+from reference import BYTES, MONTHLY, MONTHS, little, year_of
+
+
+def step_case(ledger, data, room=BYTES, expect=None):
+    """One step; expect is the refusal that it is built for."""
+    found = reference.refusal_of(ledger, data, room)
+    if expect not in (None, found):
+        raise SystemExit(f"step built for {expect}, found {found}: {ledger} room {room} {data.hex()}")
+    return case("s", cases.image(ledger) + little([(room, 2)]) + data)
+
+
+def run_case(ledger, data, room, expect=None):
+    """A whole run; expect is the accepted count and the refusal that it is built for."""
+    found = reference.run(ledger, data, bytes(min(room, cases.LONGEST)))[1:3]
+    if expect not in (None, found):
+        raise SystemExit(f"run built for {expect}, found {found}: {ledger} room {room}")
+    return case("r", cases.image(ledger) + little([(room, 4)]) + data)
+
+
+def offer_case(offer, expect):
+    return step_case(offer.ledger, offer.data(), offer.room, expect)
+
+
+def step_in_year(ledger, data, room=BYTES, expect=None):
+    return step_case(in_year_of(ledger, data), data, room, expect)
+
+
+def run_in_year(ledger, data, room, expect=None):
+    """Expect is what the run is built for where no month changes its year's factors before."""
+    ledger = in_year_of(ledger, data)
+    return run_case(ledger, data, room, expect and unless_changed(ledger, data, expect))
+
+
+def offer_in_year(offer, expect):
+    return step_in_year(offer.ledger, offer.data(), offer.room, expect)
+
+
+def unless_changed(ledger, data, expect):
+    """The accepted count and the refusal, or 17 where a month changes its year's factors before; 9 comes after 17."""
+    accepted, refusal = expect
+    kept = kept_months(ledger, data)
+    return (kept, 17) if kept < accepted or (kept, 9) == (accepted, refusal) else expect
+
+
+def kept_months(ledger, data):
+    """How many records there are before the first month that has other factors than the first month of its year."""
+    records = whole_records(data)
+    for place, record in enumerate(records):
+        first = place - (ledger.n + place) % MONTHS
+        year = year_of(records[first]) if first >= 0 else ledger.year
+        if record.kind == MONTHLY and year_of(record) != year:
+            return place
+    return len(records)
