@@ -5,6 +5,7 @@
 target=target/c
 library='' seed=1
 flags='-std=c11 -O2 -Wall -Wextra -Werror -Iinclude -Itests/c'
+differential='differential years offers sides inputs ledgers reference entries' # the files of the differential test
 
 stop() { printf '%s\n' "$*" >&2; exit 2; }
 

@@ -1,38 +1,16 @@
 /* Runs the library and the reference on many inputs, good and bad, and compares every answer and every byte.
  * Usage: differential [SEED] */
-#include "inputs.h"
+#include "offers.h"
 #include "reference.h"
 #include "sides.h"
+#include "years.h"
 
 #include <inttypes.h>
 #include <stdio.h>
 #include <stdlib.h>
 #include <string.h>
 
-/* ---- The calls, alike for both sides */
-
-static void fresh(const struct entries *it, struct side *s)
-{
-    s->answer = it->fresh(at(s, LEDGER), length_of(LEDGER));
-}
-
-static void take(const struct entries *it, struct side *s)
-{
-    s->answer = it->take(at(s, LEDGER), length_of(LEDGER), at(s, RECORDS), length_of(RECORDS), at(s, OUT), length_of(OUT),
-                         at(s, ANSWER), length_of(ANSWER));
-}
-
-static void run(const struct entries *it, struct side *s)
-{
-    s->answer = it->run(at(s, LEDGER), length_of(LEDGER), at(s, RECORDS), length_of(RECORDS), at(s, OUT), length_of(OUT),
-                        &s->numbers.whole[1]);
-}
-
-static void totals(const struct entries *it, struct side *s)
-{
-    s->answer = it->totals(at(s, LEDGER), length_of(LEDGER), &s->numbers.whole[1], &s->numbers.whole[3],
-                           &s->numbers.whole[5]);
-}
+/* ---- The calls of the door, alike for both sides */
 
 static void entry(const struct entries *it, struct side *s)
 {
@@ -48,11 +26,6 @@ static void point(const struct entries *it, struct side *s)
 {
     double *real = s->numbers.real;
     s->answer = it->point(given.figure, given.bound, &real[1], &real[3], &real[5]);
-}
-
-static void listing(const struct entries *it, struct side *s)
-{
-    s->answer = it->listing(at(s, RECORDS), length_of(RECORDS), at(s, TEXT), length_of(TEXT), &s->numbers.whole[1]);
 }
 
 static void masses(const struct entries *it, struct side *s)
@@ -206,39 +179,12 @@ static void all_sharings(void)
 
 /* ---- Ledgers and steps */
 
-/* Lends so many bytes that start as the image does; those past it are zero or random. */
-static void lend_image(const uint8_t *image, size_t length)
-{
-    uint8_t *bytes = lend(LEDGER, length);
-    if (chance(50)) memset(bytes, 0, length);
-    memcpy(bytes, image, length < IMAGE_BYTES ? length : IMAGE_BYTES);
-}
-
-static void lend_ledger(struct series series, unsigned damaged)
-{
-    uint8_t image[IMAGE_BYTES];
-    make_ledger(image, series);
-    if (chance(damaged)) damage_ledger(image);
-    lend_image(image, chance(damaged / 10) ? below(300) : IMAGE_BYTES);
-}
-
 static void all_totals(void)
 {
     for (int i = 0; i < 40000; i++) {
         lend_ledger(any_series(1200), 60);
-        both("landfill_totals", totals);
+        one_totals();
     }
-}
-
-static void one_take(struct series series, unsigned damaged, size_t record_len, size_t out_len, size_t answer_len)
-{
-    uint8_t bytes[48];
-    make_record(bytes, series);
-    if (chance(damaged)) damage_record(bytes);
-    memcpy(lend(RECORDS, record_len), bytes, record_len < 48 ? record_len : 48);
-    lend(OUT, out_len);
-    lend(ANSWER, answer_len);
-    both("landfill_take", take);
 }
 
 /* Lengths of record, output and answer; 0 stands for the length that is swept. */
@@ -268,36 +214,12 @@ static void one_history(struct series series)
     for (unsigned offer = 0; series.n < 1200 || offer % 8 != 0; offer++) {
         lend_image(image, IMAGE_BYTES);
         one_take(series, offer % 4 == 3 ? 100 : 0, 48, 48, 88);
-        memcpy(image, left(LEDGER), IMAGE_BYTES);
-        series.n = reference_read(image, 2);
+        keep_image(image);
+        follow(&series, image);
     }
 }
 
 /* ---- Runs and listings */
-
-/* Lends a file of so many bytes that goes on from a series, damaged at a place or two. */
-static void lend_records(struct series series, size_t length, unsigned damaged)
-{
-    static uint8_t file[1300 * 48];
-    size_t count = length / 48;
-    make_file(file, count + 1, series);
-    while (count > 0 && chance(damaged)) damage_record(file + 48 * below(count));
-    memcpy(lend(RECORDS, length), file, length);
-}
-
-/* The ledger is lent before. */
-static void run_file(struct series series, unsigned damaged, size_t length, size_t room)
-{
-    lend_records(series, length, damaged);
-    lend(OUT, room);
-    both("landfill_run", run);
-}
-
-static void one_run(struct series series, unsigned damaged, size_t length, size_t room)
-{
-    lend_ledger(series, damaged);
-    run_file(series, damaged, length, room);
-}
 
 static void all_runs(void)
 {
@@ -312,17 +234,10 @@ static void all_runs(void)
         one_run(any_series(i % 3 == 0 ? 0 : 1200), 30, length, room);
     }
     for (uint64_t i = 0; i < 64; i++) {
-        struct series series = {i < 32 ? 0 : edge(0, 1200), 1 + i % 2, 1 + i / 2 % 4};
+        struct series series = new_series(i < 32 ? 0 : edge(0, 1200), 1 + i % 2, 1 + i / 2 % 4);
         size_t length = edge(1195 * 48, 1205 * 48);
         one_run(series, i % 16 < 8 ? 0 : 40, length, i % 3 == 0 ? edge(1100 * 48, 1210 * 48) : 1205 * 48);
     }
-}
-
-static void one_listing(struct series series, unsigned damaged, size_t length, size_t room)
-{
-    lend_records(series, length, damaged);
-    lend(TEXT, room);
-    both("landfill_listing", listing);
 }
 
 static void all_listings(void)
@@ -341,7 +256,7 @@ static void all_listings(void)
         one_listing(any_series(i % 5 == 0 ? 2 : 0), 30, length, 1170);
     }
     for (uint64_t i = 0; i < 32; i++) {
-        struct series series = {0, 1 + i % 2, 1 + i / 2 % 4};
+        struct series series = new_series(0, 1 + i % 2, 1 + i / 2 % 4);
         one_listing(series, i < 16 ? 0 : 40, edge(1195 * 48, 1205 * 48), i % 3 == 0 ? 1201 * 90 - i % 2 : 1205 * 90);
     }
     /* Files about as long as some stretches of 32 records. */
@@ -353,26 +268,13 @@ static void all_listings(void)
 
 /* ---- Images of any length, and ledgers with a fault at one type */
 
-/* Hands the image, or as much of it as the length lets, to every entry that reads one, with records that its series takes. */
-static void open_image(const uint8_t *image, size_t length, struct series series)
-{
-    lend_image(image, length);
-    both("landfill_totals", totals);
-    lend_image(image, length);
-    one_take(series, 0, 48, 48, 88);
-    for (size_t count = 0; count <= 2; count++) {
-        lend_image(image, length);
-        run_file(series, 0, 48 * count, 96);
-    }
-}
-
 /* An image of 136 bytes, as it was before it held what was released, is among them, of fresh ledgers and others. */
 static void all_lengths(void)
 {
     uint8_t image[IMAGE_BYTES];
     for (size_t length = 0; length <= 300; length++) {
         lend(LEDGER, length);
-        both("landfill_fresh", fresh);
+        one_fresh();
         for (uint64_t most = 0; most <= 1200; most += 400) {
             struct series series = any_series(most);
             make_ledger(image, series);
@@ -399,6 +301,7 @@ int main(int count, char **words)
     reference_start();
     all_lengths();
     all_faults();
+    all_years();
     all_look_ups();
     all_cells();
     all_points();
@@ -406,7 +309,7 @@ int main(int count, char **words)
     all_totals();
     all_takes();
     for (uint64_t kind = 1; kind <= 2; kind++)
-        for (uint64_t climate = 1; climate <= 4; climate++) one_history((struct series){0, kind, climate});
+        for (uint64_t climate = 1; climate <= 4; climate++) one_history(new_series(0, kind, climate));
     all_runs();
     all_listings();
     printf("differential: %" PRIu64 " calls, 0 differences (seed %" PRIu64 ")\n", calls(), number);

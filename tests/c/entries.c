@@ -7,13 +7,16 @@
 
 enum { LEDGER_BYTES = 200, BYTES = 48, ANSWER_BYTES = 88, LINE_BYTES = 90, MOST_LINES = 1201 };
 
-/* Reads an image; gives NULL where it is malformed. */
+/* Reads an image; gives NULL where the bytes are none. */
 static const struct reference_ledger *opened(struct reference_ledger *ledger, const uint8_t *image, size_t image_len)
 {
-    if (image_len != LEDGER_BYTES || reference_read(image + 4, 4) != 0) return NULL;
+    if (image_len != LEDGER_BYTES) return NULL;
     ledger->n = (uint16_t)reference_read(image, 2);
     ledger->kind = image[2];
     ledger->climate = image[3];
+    ledger->factor = image[4];
+    ledger->class = image[5];
+    ledger->f = (uint16_t)reference_read(image + 6, 2);
     for (int t = 0; t < 8; t++) {
         ledger->T[t] = reference_read(image + 8 + 8 * t, 8);
         ledger->R[t] = reference_read(image + 72 + 8 * t, 8);
@@ -27,7 +30,9 @@ static void closed(uint8_t *image, const struct reference_ledger *ledger)
     reference_write(image, 2, ledger->n);
     image[2] = ledger->kind;
     image[3] = ledger->climate;
-    reference_write(image + 4, 4, 0);
+    image[4] = ledger->factor;
+    image[5] = ledger->class;
+    reference_write(image + 6, 2, ledger->f);
     for (int t = 0; t < 8; t++) {
         reference_write(image + 8 + 8 * t, 8, ledger->T[t]);
         reference_write(image + 72 + 8 * t, 8, ledger->R[t]);

@@ -41,13 +41,14 @@ static void check_codes(void)
                                    LANDFILL_FULL, LANDFILL_NOT_A_CODE, LANDFILL_OUT_OF_TURN, LANDFILL_OTHER_SERIES,
                                    LANDFILL_OUT_OF_RANGE, LANDFILL_MASS_TOO_LARGE, LANDFILL_CELL_EMPTY,
                                    LANDFILL_CELL_NOT_WHOLE, LANDFILL_CELL_OUTSIDE, LANDFILL_POINT_TOO_LARGE,
-                                   LANDFILL_TOTAL_TOO_LARGE, LANDFILL_NOT_THE_SAMPLES, LANDFILL_SAMPLE_NOT_WHOLE};
+                                   LANDFILL_TOTAL_TOO_LARGE, LANDFILL_NOT_THE_SAMPLES, LANDFILL_SAMPLE_NOT_WHOLE,
+                                   LANDFILL_NOT_THE_YEARS};
     check_row("a kind", kinds, 2, 1, 1);
     check_row("a climate", climates, 4, 1, 1);
     check_row("a site class", classes, 4, 1, 1);
     check_row("a waste type", types, 8, 1, 1);
     check("the number of types", LANDFILL_TYPES == 8);
-    check_row("a refusal", refusals, 17, 0, 1);
+    check_row("a refusal", refusals, 18, 0, 1);
 }
 
 static void check_sizes(void)
@@ -77,7 +78,8 @@ static void check_places(void)
     check_row("a place in an answer", answer, 3, 64, 8);
     check("the place of n, kind or climate in a ledger image",
           LANDFILL_LEDGER_AT_N == 0 && LANDFILL_LEDGER_AT_KIND == 2 && LANDFILL_LEDGER_AT_CLIMATE == 3);
-    check("the place of the zeros in a ledger image", LANDFILL_LEDGER_AT_ZERO == 4);
+    check("the place of the year's factors in a ledger image",
+          LANDFILL_LEDGER_AT_FACTOR == 4 && LANDFILL_LEDGER_AT_CLASS == 5 && LANDFILL_LEDGER_AT_CAPTURED == 6);
     check_row("a place in a ledger image", ledger, 3, 8, 64);
 }
 
@@ -220,6 +222,43 @@ static void check_released(void)
           landfill_get_released_so_far(ledger, 0) == 0 && landfill_get_released_so_far(ledger, 9) == 0);
 }
 
+/* Tells whether the helper repeats the year, or leaves the fields as they are. Every field, and every byte of the year's
+ * factors, has a number of its own. */
+static int year_is_right(unsigned kind, unsigned n, int repeats)
+{
+    struct landfill_record it = all_fields(), want = it;
+    uint8_t ledger[LANDFILL_LEDGER_BYTES];
+    memset(ledger, 0xa5, sizeof ledger);
+    ledger[0] = (uint8_t)(n & 255);
+    ledger[1] = (uint8_t)(n >> 8);
+    ledger[2] = (uint8_t)kind;
+    ledger[4] = 0xc1;
+    ledger[5] = 0xc2;
+    ledger[6] = 0xc3;
+    ledger[7] = 0xc4;
+    if (repeats) {
+        want.factor = 0xc1;
+        want.site_class = 0xc2;
+        want.captured = 0xc4c3;
+    }
+    return landfill_repeat_year(&it, ledger) == repeats && memcmp(&it, &want, sizeof it) == 0;
+}
+
+/* Every n that two bytes hold, also past the limit, and every kind, also those that are none. */
+static void check_year(void)
+{
+    unsigned n, month = 0;
+    int monthly = 1, yearly = 1, any = 1;
+    for (n = 0; n <= 65535; n++, month = month == 11 ? 0 : month + 1) {
+        monthly = monthly && year_is_right(LANDFILL_MONTHLY, n, month != 0);
+        yearly = yearly && year_is_right(LANDFILL_YEARLY, n, 0);
+        any = any && year_is_right(n / 256, n, n / 256 == 2 && month != 0);
+    }
+    check("landfill_repeat_year by month", monthly);
+    check("landfill_repeat_year by year", yearly);
+    check("landfill_repeat_year by any kind", any);
+}
+
 static void check_kg(void)
 {
     static const struct {
@@ -241,12 +280,14 @@ static void check_text(unsigned refusal, const char *text)
 static void check_texts(void)
 {
     unsigned refusal;
-    for (refusal = 0; refusal <= 16; refusal++) check("a text", strchr(landfill_refusal_text(refusal), '.') != NULL);
+    for (refusal = 0; refusal <= 17; refusal++) check("a text", strchr(landfill_refusal_text(refusal), '.') != NULL);
     check_text(LANDFILL_ACCEPTED, "Accepted.");
     check_text(LANDFILL_OUT_OF_TURN, "The period is not the next in turn.");
     check_text(LANDFILL_POINT_TOO_LARGE, "Figure and bound are too large to be drawn exactly.");
     check_text(LANDFILL_SAMPLE_NOT_WHOLE, "The fractions of a sample do not add up to 100 percent.");
-    check_text(17, "No refusal has this number.");
+    check_text(LANDFILL_NOT_THE_YEARS,
+               "The correction factor, the site class or the captured share is not that of the year's first month.");
+    check_text(18, "No refusal has this number.");
     check_text((unsigned)-1, "No refusal has this number.");
 }
 
@@ -261,6 +302,7 @@ int main(void)
     check_numbers();
     check_output();
     check_released();
+    check_year();
     check_kg();
     check_texts();
     return wrong;

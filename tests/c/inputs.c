@@ -1,4 +1,4 @@
-/* Random, edged and damaged records, ledgers and samples. */
+/* Random, edged and damaged records and samples. */
 #include "inputs.h"
 
 #include "reference.h"
@@ -59,25 +59,48 @@ uint64_t any_size(void)
     return draw() >> shift;
 }
 
-struct series any_series(uint64_t most)
+void add(uint8_t *bytes, int count, uint64_t number)
 {
-    struct series series;
-    series.n = edge(0, most);
-    series.kind = 1 + below(2);
-    series.climate = 1 + below(4);
-    return series;
+    reference_write(bytes, count, reference_read(bytes, count) + number);
 }
 
+uint8_t outside(uint64_t low, uint64_t high)
+{
+    return (uint8_t)(low > 0 && chance(40) ? edge(0, low - 1) : edge(high + 1, 255));
+}
+
+struct year any_year(void)
+{
+    struct year year;
+    year.factor = edge(1, 100);
+    year.class = 1 + below(4);
+    year.f = edge(0, 10000);
+    return year;
+}
+
+struct series new_series(uint64_t n, uint64_t kind, uint64_t climate)
+{
+    return (struct series){n, kind, climate, any_year()};
+}
+
+struct series any_series(uint64_t most)
+{
+    uint64_t n = edge(0, most), kind = 1 + below(2);
+    return new_series(n, kind, 1 + below(4));
+}
+
+/* In a monthly series, a record that does not begin a year repeats the year's factors. */
 void make_record(uint8_t *bytes, struct series series)
 {
+    struct year year = series.kind == 2 && series.n % 12 != 0 ? series.year : any_year();
     reference_write(bytes, 2, series.n + 1);
     bytes[2] = (uint8_t)series.kind;
     bytes[3] = (uint8_t)series.climate;
-    bytes[4] = (uint8_t)edge(1, 100);
+    bytes[4] = (uint8_t)year.factor;
     for (int i = 5; i <= 7; i++) bytes[i] = (uint8_t)edge(0, 100);
-    bytes[8] = (uint8_t)(1 + below(4));
+    bytes[8] = (uint8_t)year.class;
     bytes[9] = (uint8_t)edge(1, 100);
-    reference_write(bytes + 10, 2, edge(0, 10000));
+    reference_write(bytes + 10, 2, year.f);
     memset(bytes + 12, 0, 4);
     unsigned filled = (unsigned)edge(0, 100);
     for (int t = 0; t < 8; t++) reference_write(bytes + 16 + 4 * t, 4, chance(filled) ? edge(0, 1000000000) : 0);
@@ -85,20 +108,42 @@ void make_record(uint8_t *bytes, struct series series)
 
 void make_file(uint8_t *bytes, size_t count, struct series series)
 {
-    for (size_t i = 0; i < count; i++, series.n++) make_record(bytes + 48 * i, series);
+    for (size_t i = 0; i < count; i++, series.n++, bytes += 48) {
+        make_record(bytes, series);
+        series.year = (struct year){bytes[4], bytes[8], reference_read(bytes + 10, 2)};
+    }
 }
 
-/* A byte that lies outside low to high. */
-static uint8_t outside(uint64_t low, uint64_t high)
+/* Another number from low to high. */
+static uint64_t other(uint64_t number, uint64_t low, uint64_t high)
 {
-    return (uint8_t)(low > 0 && chance(40) ? edge(0, low - 1) : edge(high + 1, 255));
+    return low + (number - low + 1 + below(high - low)) % (high - low + 1);
 }
 
-static void break_one_rule(uint8_t *bytes)
+/* The largest f, 10000, has the bytes 16 and 39. */
+void change_year(uint8_t *bytes, int way)
+{
+    uint8_t *low = bytes + 10, *high = bytes + 11;
+    uint64_t f = reference_read(low, 2);
+    switch (way) {
+    case 0: bytes[4] = (uint8_t)other(bytes[4], 1, 100); break;
+    case 1: bytes[8] = (uint8_t)other(bytes[8], 1, 4); break;
+    case 2: *low = (uint8_t)other(*low, 0, *high < 39 ? 255 : 16); break;
+    case 3: *high = (uint8_t)other(*high, 0, *low > 16 ? 38 : 39); break;
+    case 4: reference_write(low, 2, f > 0 ? f - 1 : 1); break;
+    case 5:
+        change_year(bytes, 0);
+        change_year(bytes, 1);
+        reference_write(low, 2, other(f, 0, 10000));
+        break;
+    }
+}
+
+void break_rule(uint8_t *bytes, int rule)
 {
     uint64_t period = reference_read(bytes, 2);
     uint64_t pick = below(48);
-    switch (below(16)) {
+    switch (rule) {
     case 0: bytes[2] = outside(1, 2); break;
     case 1: bytes[3] = outside(1, 4); break;
     case 2: bytes[8] = outside(1, 4); break;
@@ -113,7 +158,9 @@ static void break_one_rule(uint8_t *bytes)
     case 11: reference_write(bytes + 10, 2, edge(10001, 65535)); break;
     case 12:
     case 13: reference_write(bytes + 16 + 4 * (pick % 8), 4, edge(1000000001, UINT32_MAX)); break;
-    case 14: bytes[pick] = (uint8_t)draw(); break;
+    case 14:
+    case 15: change_year(bytes, (int)below(CHANGES)); break;
+    case 16: bytes[pick] = (uint8_t)draw(); break;
     default: bytes[pick] ^= (uint8_t)(1u << below(8)); break;
     }
 }
@@ -121,108 +168,8 @@ static void break_one_rule(uint8_t *bytes)
 void damage_record(uint8_t *bytes)
 {
     if (chance(3)) random_bytes(bytes, 48);
-    do break_one_rule(bytes);
+    do break_rule(bytes, (int)below(RULES));
     while (chance(40));
-}
-
-/* Where T, R and released of the type at place t stand in an image. */
-static uint8_t *brought_of(uint8_t *image, int t)
-{
-    return image + 8 + 8 * t;
-}
-
-static uint8_t *stock_of(uint8_t *image, int t)
-{
-    return image + 72 + 8 * t;
-}
-
-static uint8_t *released_of(uint8_t *image, int t)
-{
-    return image + 136 + 8 * t;
-}
-
-/* Makes released plus R be T, modulo 2^64 only. */
-static void balance(uint8_t *image, int t)
-{
-    uint64_t T = reference_read(brought_of(image, t), 8), R = reference_read(stock_of(image, t), 8);
-    reference_write(released_of(image, t), 8, T - R);
-}
-
-void make_ledger(uint8_t *image, struct series series)
-{
-    memset(image, 0, IMAGE_BYTES);
-    if (series.n == 0) return;
-    reference_write(image, 2, series.n);
-    image[2] = (uint8_t)series.kind;
-    image[3] = (uint8_t)series.climate;
-    for (int t = 0; t < 8; t++) {
-        uint64_t T = edge(0, reference_ceiling(series.n, t));
-        reference_write(brought_of(image, t), 8, T);
-        reference_write(stock_of(image, t), 8, edge(0, T));
-        balance(image, t);
-    }
-}
-
-/* Adds to a number of so many bytes, modulo what they hold. */
-static void add(uint8_t *bytes, int count, uint64_t number)
-{
-    reference_write(bytes, count, reference_read(bytes, count) + number);
-}
-
-/* The first ways leave released plus R at T, though modulo 2^64 only. */
-void break_type(uint8_t *image, int t, int way)
-{
-    uint8_t *T = brought_of(image, t), *R = stock_of(image, t), *released = released_of(image, t);
-    uint64_t above = reference_read(T, 8) + 1, ceiling = reference_ceiling(reference_read(image, 2), t);
-    switch (way) {
-    case 0: reference_write(T, 8, ceiling + 1); break;
-    case 1: reference_write(T, 8, edge(0, UINT64_MAX)); break;
-    case 2: reference_write(R, 8, above); break;
-    case 3: reference_write(R, 8, edge(above, UINT64_MAX)); break;
-    case 4: add(released, 8, 1); return;
-    case 5: add(released, 8, UINT64_MAX); return;
-    case 6: reference_write(released, 8, edge(0, UINT64_MAX)); return;
-    case 7: add(R, 8, UINT64_MAX); return;
-    case 8: reference_write(R, 8, edge(0, UINT64_MAX)); return;
-    default:
-        random_bytes(T, 8);
-        random_bytes(R, 8);
-        random_bytes(released, 8);
-        return;
-    }
-    balance(image, t);
-}
-
-/* What one type has released may go to another, and all of it may be missing. */
-static void break_ledger(uint8_t *image)
-{
-    uint64_t pick = below(IMAGE_BYTES);
-    int t = (int)below(8), other = (int)below(8);
-    switch (below(15)) {
-    case 0: reference_write(image, 2, edge(1201, 65535)); break;
-    case 1: reference_write(image, 2, edge(0, 1300)); break;
-    case 2: reference_write(image, 2, 0); break;
-    case 3: image[2] = outside(1, 2); break;
-    case 4: image[3] = outside(1, 4); break;
-    case 5: image[2 + pick % 2] = 1; break;
-    case 6: image[4 + pick % 4] = (uint8_t)edge(1, 255); break;
-    case 7:
-        add(released_of(image, t), 8, 1);
-        add(released_of(image, other), 8, UINT64_MAX);
-        break;
-    case 8: memset(released_of(image, 0), 0, 64); break;
-    case 9: image[pick] = (uint8_t)draw(); break;
-    case 10: image[pick] ^= (uint8_t)(1u << below(8)); break;
-    default: break_type(image, t, (int)below(WAYS)); break;
-    }
-}
-
-void damage_ledger(uint8_t *image)
-{
-    if (chance(5)) random_bytes(image, IMAGE_BYTES);
-    if (chance(5)) memset(image, 0, IMAGE_BYTES);
-    do break_ledger(image);
-    while (chance(30));
 }
 
 static void make_sample(uint8_t *sample)

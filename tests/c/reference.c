@@ -127,11 +127,20 @@ uint64_t reference_ceiling(uint64_t n, int t)
     return n * BILLION * DOC[t] * 100;
 }
 
+/* A monthly ledger with records has a year's factors within their ranges; any other has none. */
+static bool year_is_sound(const struct reference_ledger *ledger)
+{
+    if (ledger->n > 0 && ledger->kind == 2)
+        return between(1, ledger->factor, 100) && between(1, ledger->class, 4) && ledger->f <= 10000;
+    return ledger->factor == 0 && ledger->class == 0 && ledger->f == 0;
+}
+
 bool reference_is_sound(const struct reference_ledger *ledger)
 {
     if (ledger == NULL || ledger->n > RECORDS) return false;
     if (ledger->n == 0 && (ledger->kind != 0 || ledger->climate != 0)) return false;
     if (ledger->n > 0 && !(between(1, ledger->kind, 2) && between(1, ledger->climate, 4))) return false;
+    if (!year_is_sound(ledger)) return false;
     for (int t = 0; t < TYPES; t++) {
         if (ledger->T[t] > reference_ceiling(ledger->n, t)) return false;
         if (ledger->R[t] > ledger->T[t]) return false;
@@ -149,6 +158,19 @@ static bool ranges_are_wrong(const struct record *it)
 {
     return !between(1, it->factor, 100) || it->OX > 100 || it->F > 100 || it->DOCf > 100 ||
            !between(1, it->GWP, 100) || it->f > 10000;
+}
+
+/* Tells whether the next record is number 12q + 1. */
+static bool begins_a_year(const struct reference_ledger *ledger)
+{
+    return ledger->n % 12 == 0;
+}
+
+/* A month that does not begin a year repeats the factors of the one that did. */
+static bool year_is_another(const struct reference_ledger *ledger, const struct record *it)
+{
+    if (it->kind != 2 || begins_a_year(ledger)) return false;
+    return it->factor != ledger->factor || it->class != ledger->class || it->f != ledger->f;
 }
 
 static bool a_mass_is_over(const struct record *it)
@@ -169,6 +191,7 @@ uint8_t reference_refusal(const struct reference_ledger *ledger, const uint8_t *
     if (it.period != ledger->n + 1u) return 6;
     if (ledger->n > 0 && (it.kind != ledger->kind || it.climate != ledger->climate)) return 7;
     if (ranges_are_wrong(&it)) return 8;
+    if (year_is_another(ledger, &it)) return 17;
     if (a_mass_is_over(&it)) return 9;
     return 0;
 }
@@ -219,9 +242,19 @@ static void put_output(uint8_t *out, const struct reference_ledger *after, const
     reference_write(out + 40, 8, reference_total(after->T));
 }
 
+/* A month that begins a year brings the year's factors. */
+static void remember(struct reference_ledger *ledger, const struct record *it)
+{
+    if (it->kind != 2 || !begins_a_year(ledger)) return;
+    ledger->factor = (uint8_t)it->factor;
+    ledger->class = (uint8_t)it->class;
+    ledger->f = (uint16_t)it->f;
+}
+
 void reference_accept(struct reference_ledger *ledger, const uint8_t *record, uint8_t *out, struct reference_answer *answer)
 {
     struct record it = fields(record);
+    remember(ledger, &it);
     ledger->n += 1;
     ledger->kind = (uint8_t)it.kind;
     ledger->climate = (uint8_t)it.climate;

@@ -7,11 +7,14 @@
 #include <stddef.h>
 #include <stdint.h>
 
-/* The number n of accepted records, their kind and climate, and for each type the carbon brought in (T), the carbon left
- * (R) and the carbon released so far, in mg. Place 0 is type 1. */
+/* The number n of accepted records, their kind and climate, by month the year's correction factor, site class and captured
+ * f, and for each type the carbon brought in (T), the carbon left (R) and the carbon released so far, in mg. Place 0 is
+ * type 1. */
 struct reference_ledger {
     uint16_t n;
     uint8_t kind, climate;
+    uint8_t factor, class;
+    uint16_t f;
     uint64_t T[8], R[8], released[8];
 };
 

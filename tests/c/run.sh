@@ -29,7 +29,8 @@ run "$target/example" >"$target/example.txt"
 diff tests/c/example.txt "$target/example.txt"
 echo "example: as expected"
 
-build differential tests/c/differential.c tests/c/sides.c tests/c/inputs.c tests/c/reference.c tests/c/entries.c "$library"
+sources=$(printf 'tests/c/%s.c ' $differential)
+build differential $sources "$library"
 run "$target/differential" "$seed"
 
 # The reference works with floats, so that the modes change its answers.

@@ -7,7 +7,7 @@ cd "$(dirname "$0")/../.."
 prepare --standin
 
 objects=''
-for file in differential sides inputs reference entries; do
+for file in $differential; do
     "$gcc" $flags -c -o "$target/$file.o" "tests/c/$file.c"
     objects="$objects $target/$file.o"
 done
