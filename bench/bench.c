@@ -19,7 +19,16 @@ enum { SAMPLES = 400, TOTAL = 987654321, SHARERS = 3 };
 static uint8_t file[RECORDS * BYTES], out[PEERS][RECORDS * BYTES], text[90 * (RECORDS + 1)];
 static uint8_t samples[SAMPLES * LANDFILL_SAMPLE_BYTES];
 
-/* Monthly records of eight types in climate 4, every one accepted. */
+/* Takes correction factor, site class and captured f from the month before. */
+static void repeat_year(uint8_t *record)
+{
+    const uint8_t *before = record - BYTES;
+    record[4] = before[4];
+    record[8] = before[8];
+    memcpy(record + 10, before + 10, 2);
+}
+
+/* Monthly records of eight types in climate 4, every one accepted: the months of a year share what they have to. */
 static void make_months(void)
 {
     seed(1);
@@ -33,6 +42,7 @@ static void make_months(void)
         record[8] = (uint8_t)(1 + below(4));
         record[9] = (uint8_t)(1 + below(100));
         reference_write(record + 10, 2, below(10001));
+        if (i % 12 > 0) repeat_year(record);
         for (int t = 0; t < 8; t++) reference_write(record + 16 + 4 * t, 4, 1 + below(LANDFILL_MASS_LIMIT));
     }
 }

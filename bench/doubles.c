@@ -32,6 +32,13 @@ static double rate(const uint8_t *record, int t)
     return record[2] == 1 ? k : k / 12;
 }
 
+/* Tells whether record n + 1 is a month with another correction factor, site class or captured f than its year's first. */
+static int year_is_another(const uint8_t *first, const uint8_t *it, size_t n)
+{
+    const uint8_t *year = first + BYTES * (n - n % 12);
+    return it[2] == 2 && (it[4] != year[4] || it[8] != year[8] || number(it + 10, 2) != number(year + 10, 2));
+}
+
 /* The refusal of record n + 1, which stands `left` bytes before the end of its file. */
 static uint8_t refusal_of(const uint8_t *first, const uint8_t *it, size_t left, size_t room, size_t n)
 {
@@ -44,6 +51,7 @@ static uint8_t refusal_of(const uint8_t *first, const uint8_t *it, size_t left, 
     if (it[4] < 1 || it[4] > 100 || it[5] > 100 || it[6] > 100 || it[7] > 100 || it[9] < 1 || it[9] > 100 ||
         number(it + 10, 2) > 10000)
         return 8;
+    if (year_is_another(first, it, n)) return 17;
     for (int t = 0; t < TYPES; t++)
         if (number(it + 16 + 4 * t, 4) > 1000000000) return 9;
     return 0;
