@@ -12,15 +12,14 @@ use Rattle.numbers.specs.Eight.{eight}
 use Rattle.numbers.proofs.Bytes.{read-back}
 use Rattle.numbers.proofs.Eight.{eight-at}
 use Rattle.record.specs.Fields.{recordBytes}
-use Rattle.year.specs.Year.{soundYear, noYear}
 use Rattle.year.proofs.Laws.{captured-most}
 use Rattle.ledger.specs.Stock.{fresh, broughtAt, stockAt, releasedAt, after}
-use Rattle.ledger.specs.Refusal.{sound, allZero, emptyAt, refusalOf}
+use Rattle.ledger.specs.Refusal.{sound, refusalOf}
 use Rattle.ledger.specs.Take.{acceptedOf, takeOf}
 use Rattle.ledger.specs.History.{Offer, turns, ledgerAfter, runOf}
 use Rattle.ledger.specs.declared.book.Ledger.{Ledger}
 use Rattle.ledger.proofs.Sound.{sound-is}
-use Rattle.ledger.proofs.Accepted.{accepted, accepted-sound}
+use Rattle.ledger.proofs.Accepted.{accepted, fresh-sound, accepted-sound}
 use Rattle.ledger.proofs.Take.{taken, refused-keeps}
 use Rattle.ledger.proofs.History.{run-goes-on, run-stops, run-ends}
 use Rattle.image.specs.Image.{imageBytes, imageOf, saidBy, noLedger, ledgerOf, Kept}
@@ -77,8 +76,8 @@ module _ (l : Ledger) (k : Kept l) where
   image-back = said-again
 
 pub fresh-kept : Kept fresh
-unfolding fresh sound allZero emptyAt soundYear noYear
-fresh-kept = record { is-sound = refl; brought = refl; stock = refl; released = refl }
+unfolding fresh
+fresh-kept = record { is-sound = fresh-sound; brought = refl; stock = refl; released = refl }
 
 -- A sound ledger that bytes say can be kept.
 pub said-kept : (image : List ℕ) → sound (ledgerOf image) ≡ true → Kept (ledgerOf image)

@@ -19,11 +19,11 @@ use Rattle.record.specs.Ranges.{codes, coded, inRange, light}
 use Rattle.record.proofs.Laws.{mass-light}
 use Rattle.stock.specs.Stock.{mostRecords, mostBrought, entryAt, ceilingOf}
 use Rattle.stock.proofs.Laws.{entry-small}
-use Rattle.year.specs.Year.{shares}
+use Rattle.year.specs.Year.{noYear, shares, soundYear}
 use Rattle.year.proofs.Laws.{year-stays}
-use Rattle.ledger.specs.Stock.{newBrought, held, newStock, release, newReleased, after}
+use Rattle.ledger.specs.Stock.{fresh, newBrought, held, newStock, release, newReleased, after}
 use Rattle.refusal.specs.Refusal.{continues, faultsOf}
-use Rattle.ledger.specs.Refusal.{sound, refusalOf}
+use Rattle.ledger.specs.Refusal.{sound, allZero, emptyAt, refusalOf}
 use Rattle.ledger.specs.Take.{acceptedOf}
 use Rattle.ledger.specs.declared.book.Ledger.{Ledger}
 use Rattle.ledger.proofs.Sound.{Sound, sound-is, is-sound}
@@ -137,6 +137,11 @@ stays-sound l bytes a =
     is-sound (after l bytes) (omega (arith, a .more)) (λ z. omega arith) (simp (a .kind, a .climate))
     (year-stays (l .n) (l .year) bytes (l .kind) (a .ledger .year) (λ some. a .same some .0) (a .ranges) (a .class))
     (λ t h. rw (eight-at (newBrought l bytes) t h, eight-at (newStock l bytes) t h, eight-at (newReleased l bytes) t h) (new-within l bytes a t h, new-parted l bytes a t h))
+
+-- A fresh ledger is sound.
+pub fresh-sound : sound fresh ≡ true
+unfolding fresh sound allZero emptyAt soundYear noYear
+fresh-sound = refl
 
 -- The ledger of an accepted answer is sound.
 pub accepted-sound : (l : Ledger) (bytes : List ℕ) → Accepted l bytes → sound (acceptedOf l bytes .ledger) ≡ true

@@ -1,7 +1,7 @@
 -- Every accepted month has the three values of the record that began its year, and so has the ledger: by induction on the accepted
 -- records.
 use mathlib.Core.Path.{_≡_, refl, sym, ap, _∙_}
-use mathlib.Core.Bool.{Bool, true, false}
+use mathlib.Core.Bool.{Bool, true, false, not, and-false, or-false}
 use mathlib.Core.List.{List, [], _∷_, _++_}
 use Prim.Native.Nat.{ℕ, suc, _+_, _-_, _*_, _/_, _%_, _≤_}
 use native.Mathlib.Decide.{ℕ-discrete}
@@ -72,7 +72,8 @@ module _ (o : Offering) (r : OneByOne o) (bytes : List ℕ) (room : ℕ) (e : re
         by false b =
             let mid = eqb-false (l .n % 12) 0 b in
             let there : first (l .n) ≡ first (l .n + 1) = omega (arith, mid) in
-            simp b (so-far (λ z. omega (arith, mid, z)) .kept (omega (arith, mid)) ∙ sym (earlier (first (l .n)) (omega arith) (omega (arith, mid))) ∙ ap (yearAt (withOne o bytes)) there)
+            simp (b, and-false)
+            (so-far (λ z. omega (arith, mid, z)) .kept (omega (arith, mid)) ∙ sym (earlier (first (l .n)) (omega arith) (omega (arith, mid))) ∙ ap (yearAt (withOne o bytes)) there)
 
     shared-on : Shared (withOne o bytes)
     unfolding after
@@ -119,5 +120,5 @@ pub only-17 : (l : Ledger) (bytes : List ℕ) (room : ℕ) → takeOf l bytes ro
 unfolding refusalOf faultsOf
 only-17 l bytes room e =
     let there = refused-with 16 (faultsOf (sound l) (l .n) (l .kind) (l .climate) (l .year) bytes room) (sym (take-refusal l bytes room) ∙ e) in
-    let u = unshared (l .n) (l .year) bytes (not-true (shares (l .n) (l .year) bytes) there) in
+    let u = unshared (l .n) (l .year) bytes (not-true (shares (l .n) (l .year) bytes) (rw (or-false (not (shares (l .n) (l .year) bytes))) at there)) in
     record { by-month = u .0; mid-year = u .1 .0; unlike = u .1 .1 }
