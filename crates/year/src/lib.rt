@@ -37,23 +37,30 @@ impl Year {
         }
     }
 
-    // Tells whether a record has the same.
+    // Tells whether a record has the same; test by test, which takes fewer instructions than all three together.
     fn is_repeated(self, bytes: &[u8]) -> bool
         ensures { λ r. ⌜ r ≡ repeats self (now (bytes .entry)) ⌝ }
     {
-        let factor = record::factor(bytes) == self.factor;
-        let captured = record::captured(bytes) == self.captured;
-        factor & captured & (record::class(bytes) == self.class)
+        if record::factor(bytes) != self.factor {
+            return false;
+        }
+        if record::class(bytes) != self.class {
+            return false;
+        }
+        record::captured(bytes) == self.captured
     }
 
-    // Tells whether a record behind n others may come: it is yearly, or begins a year, or has the same.
+    // Tells whether a record behind n others may come: it is yearly, or has the same, or begins a year.
     pub fn is_shared(self, n: u16, bytes: &[u8]) -> bool
         ensures { λ r. ⌜ r ≡ shares n self (now (bytes .entry)) ⌝ }
     {
         if record::kind(bytes) != MONTHLY {
             return true;
         }
-        (n % MONTHS == 0) | self.is_repeated(bytes)
+        if self.is_repeated(bytes) {
+            return true;
+        }
+        n % MONTHS == 0
     }
 
     // Answers what is remembered after a record behind n others.
