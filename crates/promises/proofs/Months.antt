@@ -11,7 +11,7 @@ use lib.ListN.{length, List·getD-append}
 use lib.Seq.{getD-at}
 use Rattle.numbers.proofs.Fault.{refused-with}
 use Rattle.record.specs.Fields.{kindOf}
-use Rattle.year.specs.Year.{yearOf, isMonthly, beginsYear, shares, remembered}
+use Rattle.year.specs.Year.{yearOf, isMonthly, months, beginsYear, shares, remembered}
 use Rattle.year.specs.declared.Year.{Year}
 use Rattle.year.proofs.Laws.{nothing-kept, remembers-own, unshared}
 use Rattle.refusal.specs.Refusal.{faultsOf}
@@ -30,7 +30,7 @@ use Rattle.promises.proofs.Stocks.{all-counted}
 
 -- the record that began the year of record i
 abbrev first : ℕ → ℕ
-first i = 12 * ((i - 1) / 12) + 1
+first i = months * ((i - 1) / months) + 1
 
 abbrev yearAt : Offering → ℕ → Year
 yearAt o i = yearOf (recordAt (recordsIn o) i)
@@ -67,10 +67,10 @@ module _ (o : Offering) (r : OneByOne o) (bytes : List ℕ) (room : ℕ) (e : re
       where
         by : (b : Bool) → beginsYear (l .n) ≡ b → remembered (l .n) (l .year) bytes ≡ yearAt (withOne o bytes) (first (l .n + 1))
         by true b =
-            let here : first (l .n + 1) ≡ l .n + 1 = omega (arith, eqb-true (l .n % 12) 0 b) in
+            let here : first (l .n + 1) ≡ l .n + 1 = omega (arith, eqb-true (l .n % months) 0 b) in
             own ∙ sym latest ∙ ap (yearAt (withOne o bytes)) (sym here)
         by false b =
-            let mid = eqb-false (l .n % 12) 0 b in
+            let mid = eqb-false (l .n % months) 0 b in
             let there : first (l .n) ≡ first (l .n + 1) = omega (arith, mid) in
             simp (b, and-false)
             (so-far (λ z. omega (arith, mid, z)) .kept (omega (arith, mid)) ∙ sym (earlier (first (l .n)) (omega arith) (omega (arith, mid))) ∙ ap (yearAt (withOne o bytes)) there)
@@ -111,7 +111,7 @@ months-share o r =
       one-year = λ month i k low high low′ high′ same.
           let s = shared o r month in
           same-three (recordAt (recordsIn o) i) (recordAt (recordsIn o) k)
-          (s .each i low high ∙ ap (λ (q : ℕ). yearAt o (12 * q + 1)) same ∙ sym (s .each k low′ high′));
+          (s .each i low high ∙ ap (λ (q : ℕ). yearAt o (months * q + 1)) same ∙ sym (s .each k low′ high′));
       remembers = λ month. shared o r month .kept;
       yearly-zero = λ year. nothing-kept (o .ledger .n) (o .ledger .kind) (o .ledger .year) (sound-is (o .ledger) (ledger-sound o r) .year) (rw year);
     }

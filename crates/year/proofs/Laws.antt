@@ -11,7 +11,7 @@ use Rattle.numbers.proofs.Eight.{three-true, all-true}
 use Rattle.waste.specs.Waste.{isClass}
 use Rattle.record.specs.Fields.{kindOf, factorOf, capturedOf, classOf, factorsOf}
 use Rattle.record.specs.Ranges.{isFactor, isShare, ranges, inRange}
-use Rattle.year.specs.Year.{yearOf, noYear, isMonthly, beginsYear, repeats, shares, remembered, yearInRange, nothingKept, soundYear}
+use Rattle.year.specs.Year.{yearOf, noYear, isMonthly, months, beginsYear, repeats, shares, remembered, yearInRange, nothingKept, soundYear}
 use Rattle.year.specs.declared.Year.{Year}
 
 -- A record whose factors are in range has a year in range.
@@ -50,7 +50,7 @@ module _ (n : ℕ) (year : Year) (bytes : List ℕ) where
       by : (m : Bool) → isMonthly (kindOf bytes) ≡ m → (b : Bool) → beginsYear n ≡ b → soundYear (n + 1) (kindOf bytes) (remembered n year bytes) ≡ true
       by true m true b = simp (lt-ltb 0 (n + 1) (omega arith), m, b) (own-in-range bytes e c)
       by true m false b =
-          let some : n ≡ 0 → ⊥ = λ z. eqb-false (n % 12) 0 b (omega (arith, z)) in
+          let some : n ≡ 0 → ⊥ = λ z. eqb-false (n % months) 0 b (omega (arith, z)) in
           let k : isMonthly kind ≡ true = ap isMonthly (sym (same some)) ∙ m in
           simp (lt-ltb 0 (n + 1) (omega arith), m, b) (simp (lt-ltb 0 n (omega (arith, some)), k) at s)
       by false m b′ b =
@@ -81,11 +81,11 @@ module _ (n : ℕ) (year : Year) (bytes : List ℕ) where
       by false b = simp (m, b) (sym (repeated (simp (m, b) at s)))
 
   -- A record that does not share is a month in the middle of a year, with another year than its own.
-  pub unshared : shares n year bytes ≡ false → (kindOf bytes ≡ 2) × ((n % 12 ≡ 0 → ⊥) × (yearOf bytes ≡ year → ⊥))
+  pub unshared : shares n year bytes ≡ false → (kindOf bytes ≡ 2) × ((n % months ≡ 0 → ⊥) × (yearOf bytes ≡ year → ⊥))
   unfolding shares yearOf
   unshared e = by (isMonthly (kindOf bytes)) refl (beginsYear n) refl
     where
-      by : (m : Bool) → isMonthly (kindOf bytes) ≡ m → (b : Bool) → beginsYear n ≡ b → (kindOf bytes ≡ 2) × ((n % 12 ≡ 0 → ⊥) × (yearOf bytes ≡ year → ⊥))
+      by : (m : Bool) → isMonthly (kindOf bytes) ≡ m → (b : Bool) → beginsYear n ≡ b → (kindOf bytes ≡ 2) × ((n % months ≡ 0 → ⊥) × (yearOf bytes ≡ year → ⊥))
       by true m true b = absurd (true≢false (simp (m, b) at e))
       by true m false b =
           let unlike : yearOf bytes ≡ year → ⊥
@@ -96,5 +96,5 @@ module _ (n : ℕ) (year : Year) (bytes : List ℕ) where
             eq-eqb (capturedOf bytes) (year .captured) (ap (λ (y : Year). y .captured) same),
             eq-eqb (classOf bytes) (year .class) (ap (λ (y : Year). y .class) same),
           ) at e) in
-          (eqb-true (kindOf bytes) 2 m, (eqb-false (n % 12) 0 b, unlike))
+          (eqb-true (kindOf bytes) 2 m, (eqb-false (n % months) 0 b, unlike))
       by false m b′ b = absurd (true≢false (simp m at e))

@@ -21,9 +21,12 @@ noYear = record { factor = 0; captured = 0; class = 0 }
 abbrev pub isMonthly : ℕ → Bool
 isMonthly kind = eqb kind 2
 
--- Behind n others a record is 12q + 1, the first of a year, where n is 12q.
+-- A year has 12: behind n others a record is 12q + 1, the first of a year, where n is 12q.
+abbrev pub months : ℕ
+months = 12
+
 abbrev pub beginsYear : ℕ → Bool
-beginsYear n = eqb (n % 12) 0
+beginsYear n = eqb (n % months) 0
 
 -- 'Records 12q + 2 to 12q + 12 must repeat those three values of record 12q + 1': else 17.
 abbrev pub repeats : Year → List ℕ → Bool
