@@ -322,9 +322,10 @@ static inline void landfill_set_masses(struct landfill_record *fields, const uin
     for (type = 1; type <= LANDFILL_TYPES; type++) fields->mass[type] = masses[type - 1];
 }
 
-/* Puts what the next record of a ledger image has to repeat into the fields of a record, and answers 1: the correction factor,
- * site class and captured share of its year. Answers 0, and the fields stay, where the next record brings its own: it begins
- * a year, or the ledger is yearly. It looks at nothing else: landfill_totals says whether the image is sound. */
+/* Puts what the next record of a ledger image has to repeat into the fields of a record, and answers 1: the correction
+ * factor, the site class and the captured share of its year. Answers 0, and the fields stay, where there is nothing to
+ * repeat: the next record begins a year, or the ledger is not monthly. It looks at nothing else: landfill_totals says
+ * whether the image is sound. */
 static inline int landfill_repeat_year(struct landfill_record *fields, const uint8_t *ledger)
 {
     if (ledger[LANDFILL_LEDGER_AT_KIND] != LANDFILL_MONTHLY || landfill_get(ledger + LANDFILL_LEDGER_AT_N, 2) % 12 == 0)
