@@ -6,7 +6,7 @@ use mathlib.Core.List.{List, [], _∷_, _++_}
 use Prim.Native.Nat.{ℕ, suc, _+_, _-_, _≤_, _<_}
 use native.Mathlib.Numerals.{add-one}
 use native.Mathlib.Omega.{arith}
-use lib.ListN.{length, List·getD-append}
+use lib.ListN.{length}
 use lib.Seq.{getD-at}
 use Rattle.numbers.specs.Eight.{sumOf}
 use Rattle.numbers.specs.Fraction.{Fraction, total}
@@ -28,7 +28,7 @@ use Rattle.promises.specs.Offering.{Offering, recordsIn}
 use Rattle.promises.specs.Exact.{inert, exactRelease, exactReleaseAt, exactFigure}
 use Rattle.promises.specs.Promises.{Chosen, WithinBound}
 use Rattle.promises.proofs.OneByOne.{OneByOne, none-yet, one-more, records-more, n-counts, conserved}
-use Rattle.promises.proofs.Stocks.{earlier, before, all-counted, Alike, alike-before, near, both-next}
+use Rattle.promises.proofs.Stocks.{record-earlier, earlier, before, all-counted, Alike, alike-before, near, both-next}
 use Rattle.promises.proofs.Release.{Beside, beside-inert, beside-decaying}
 use Rattle.promises.proofs.Figure.{beside-sums, chain}
 
@@ -47,7 +47,7 @@ module _ (d : ℕ → Fraction) (records : List (List ℕ)) (bytes : List ℕ) (
   unfolding exactFigure
   figure-kept =
       rw (
-        List·getD-append records (bytes ∷ []) [] (n - 1) (omega arith),
+        record-earlier records bytes n low high,
         total-same (exactReleaseAt d (records ++ (bytes ∷ [])) n) (exactReleaseAt d records n) 8 (λ t _. release-kept t),
       )
 

@@ -2,16 +2,15 @@
 -- records.
 use mathlib.Core.Path.{_≡_, refl, sym, ap, _∙_}
 use mathlib.Core.Bool.{Bool, true, false, not, and-false, or-false}
-use mathlib.Core.List.{List, [], _∷_, _++_}
+use mathlib.Core.List.{List}
 use Prim.Native.Nat.{ℕ, suc, _+_, _-_, _*_, _/_, _%_, _≤_}
 use native.Mathlib.Decide.{ℕ-discrete}
 use native.Mathlib.Omega.{arith}
 use borrow.Author.Tests.{eq-eqb, eqb-true, eqb-false, not-true}
-use lib.ListN.{length, List·getD-append}
-use lib.Seq.{getD-at}
+use lib.ListN.{length}
 use Rattle.numbers.proofs.Fault.{refused-with}
 use Rattle.record.specs.Fields.{kindOf}
-use Rattle.year.specs.Year.{yearOf, isMonthly, months, beginsYear, shares, remembered}
+use Rattle.year.specs.Year.{yearOf, months, beginsYear, shares, remembered}
 use Rattle.year.specs.declared.Year.{Year}
 use Rattle.year.proofs.Laws.{nothing-kept, remembers-own, unshared}
 use Rattle.refusal.specs.Refusal.{faultsOf}
@@ -26,7 +25,7 @@ use Rattle.promises.specs.Offering.{Offering, recordsIn}
 use Rattle.promises.specs.Exact.{recordAt}
 use Rattle.promises.specs.Promises.{SameYear, MonthsShare, NotTheYears}
 use Rattle.promises.proofs.OneByOne.{withOne, OneByOne, none-yet, one-more, records-more, n-counts}
-use Rattle.promises.proofs.Stocks.{all-counted}
+use Rattle.promises.proofs.Stocks.{record-earlier, record-latest, all-counted}
 
 -- the record that began the year of record i
 abbrev first : ℕ → ℕ
@@ -49,12 +48,12 @@ module _ (o : Offering) (r : OneByOne o) (bytes : List ℕ) (room : ℕ) (e : re
   long = all-counted o ∙ sym (n-counts o r)
 
   earlier : (i : ℕ) → 1 ≤ i → i ≤ l .n → yearAt (withOne o bytes) i ≡ yearAt o i
-  earlier i low high = rw (records-more o bytes, List·getD-append (recordsIn o) (bytes ∷ []) [] (i - 1) (omega (arith, long)))
+  earlier i low high = rw (records-more o bytes, record-earlier (recordsIn o) bytes i low (omega (arith, long)))
 
   latest : yearAt (withOne o bytes) (l .n + 1) ≡ yearOf bytes
   latest =
-      let at : l .n + 1 - 1 ≡ length (recordsIn o) = omega (arith, long) in
-      rw (records-more o bytes, at, getD-at (recordsIn o) bytes [] [] (length (recordsIn o)) refl)
+      let at : l .n + 1 ≡ suc (length (recordsIn o)) = omega (arith, long) in
+      rw (records-more o bytes, at, record-latest (recordsIn o) bytes)
 
   own : remembered (l .n) (l .year) bytes ≡ yearOf bytes
   own = remembers-own (l .n) (l .year) bytes (eq-eqb (kindOf bytes) 2 month) (step.accepted l bytes room e .shared)

@@ -1,5 +1,5 @@
 -- The ledger's stock beside the exact stock of the accepted records: what `Stock` says of one record holds of all, by induction.
-use mathlib.Core.Path.{_≡_, refl}
+use mathlib.Core.Path.{_≡_, refl, ap}
 use mathlib.Core.List.{List, [], _∷_, _++_}
 use Prim.Native.Nat.{ℕ, suc, _+_, _-_, _≤_, _<_}
 use native.Mathlib.Omega.{arith}
@@ -20,30 +20,38 @@ use Rattle.ledger.proofs.Accepted as step
 use Rattle.ledger.proofs.History.{acceptedTurn}
 use Rattle.ledger.proofs.Step.{brought-after, stock-after}
 use Rattle.promises.specs.Offering.{Offering, recordsIn}
-use Rattle.promises.specs.Exact.{remains, exactStock, depositIn}
+use Rattle.promises.specs.Exact.{recordAt, remains, exactStock, depositIn}
 use Rattle.promises.specs.Promises.{CloseTo}
 use Rattle.promises.proofs.OneByOne.{withOne, OneByOne, none-yet, one-more, records-more, n-counts}
 use Rattle.promises.proofs.Stock.{recurs, NearExact, one-on}
 
--- one record more leaves the deposits before it as they are
-module _ (records : List (List ℕ)) (bytes : List ℕ) (t : ℕ) where
+-- one record more leaves those before it as they are, and stands behind them
+module _ (records : List (List ℕ)) (bytes : List ℕ) where
   abbrev all : List (List ℕ)
   all = records ++ (bytes ∷ [])
 
-  pub earlier : (i : ℕ) → 1 ≤ i → i ≤ length records → depositIn all t i ≡ depositIn records t i
-  unfolding depositIn
-  earlier i low high = rw (List·getD-append records (bytes ∷ []) [] (i - 1) (omega arith))
+  pub record-earlier : (i : ℕ) → 1 ≤ i → i ≤ length records → recordAt all i ≡ recordAt records i
+  record-earlier i low high = List·getD-append records (bytes ∷ []) [] (i - 1) (omega arith)
 
-  pub latest : depositIn all t (suc (length records)) ≡ depositOf bytes t
-  unfolding depositIn
-  latest =
+  pub record-latest : recordAt all (suc (length records)) ≡ bytes
+  record-latest =
       let e : suc (length records) - 1 ≡ length records = omega arith in
       rw (e, getD-at records bytes [] [] (length records) refl)
 
-  pub before : (d : Fraction) (n : ℕ) → n ≤ length records → exactStock d (depositIn all t) n ≡ exactStock d (depositIn records t) n
+-- and so do their deposits
+module _ (records : List (List ℕ)) (bytes : List ℕ) (t : ℕ) where
+  pub earlier : (i : ℕ) → 1 ≤ i → i ≤ length records → depositIn (all records bytes) t i ≡ depositIn records t i
+  unfolding depositIn
+  earlier i low high = ap (λ b. depositOf b t) (record-earlier records bytes i low high)
+
+  pub latest : depositIn (all records bytes) t (suc (length records)) ≡ depositOf bytes t
+  unfolding depositIn
+  latest = ap (λ b. depositOf b t) (record-latest records bytes)
+
+  pub before : (d : Fraction) (n : ℕ) → n ≤ length records → exactStock d (depositIn (all records bytes) t) n ≡ exactStock d (depositIn records t) n
   unfolding exactStock remains
   before d n h =
-      total-same (λ k. remains d (depositIn all t) n (k + 1)) (λ k. remains d (depositIn records t) n (k + 1)) n
+      total-same (λ k. remains d (depositIn (all records bytes) t) n (k + 1)) (λ k. remains d (depositIn records t) n (k + 1)) n
       (λ k l. rw (earlier (k + 1) (omega arith) (omega arith)))
 
 pub all-counted : (o : Offering) → length (recordsIn o) ≡ length (o .accepted)

@@ -1,5 +1,4 @@
 -- 200 bytes say their ledger; anything else counts as an unsound one.
-use native.Mathlib.Omega.{arith}
 use borrow.Author.Needs.{needs}
 use borrow.Author.Tests.{eq-eqb, ne-eqb}
 use Rattle.ledger.specs.Stock.{fresh}
