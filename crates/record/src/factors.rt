@@ -1,9 +1,23 @@
 // The factors of a record, as a value.
 ghost use mathlib.Core.Path.{_≡_};
 ghost use Rattle.record.specs.Fields.{factorsOf};
-ghost use Rattle.record.specs.Ranges.{inRange};
+ghost use Rattle.record.specs.Ranges.{isFactor, isShare, inRange};
 use crate::bytes::byte;
 use crate::bytes::two;
+
+// Tells whether a number is a correction factor.
+pub fn is_factor(percent: u64) -> bool
+    ensures { λ r. ⌜ r ≡ isFactor percent ⌝ }
+{
+    numbers::is_between(1, percent, 100)
+}
+
+// Tells whether a number is a captured share.
+pub fn is_share(captured: u64) -> bool
+    ensures { λ r. ⌜ r ≡ isShare captured ⌝ }
+{
+    captured <= 10000
+}
 
 // Correction factor, oxidation OX, methane share F and DOCf in percent, the site class, the warming potential GWP, and the captured
 // share f in hundredths of a percent; wide where they are multiplied, so that the compiler keeps each in a place of its own.
@@ -38,10 +52,9 @@ impl Factors {
         ensures { λ r. ⌜ r ≡ inRange self ⌝ }
     {
         let percents = (self.oxidation <= 100) & (self.methane <= 100) & (self.docf <= 100);
-        let factor = numbers::is_between(1, self.factor, 100);
-        factor
+        is_factor(self.factor)
             & percents
             & numbers::is_between(1, self.potential as u64, 100)
-            & (self.captured <= 10000)
+            & is_share(self.captured)
     }
 }

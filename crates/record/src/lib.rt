@@ -5,6 +5,8 @@ mod factors;
 mod fields;
 
 pub use factors::Factors;
+pub use factors::is_factor;
+pub use factors::is_share;
 pub use fields::captured;
 pub use fields::class;
 pub use fields::climate;

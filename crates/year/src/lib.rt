@@ -77,8 +77,8 @@ impl Year {
     fn is_in_range(self) -> bool
         ensures { λ r. ⌜ r ≡ yearInRange self ⌝ }
     {
-        let factor = numbers::is_between(1, self.factor as u64, 100);
-        factor & (self.captured <= 10000) & waste::is_class(self.class)
+        let factor = record::is_factor(self.factor as u64);
+        factor & record::is_share(self.captured as u64) & waste::is_class(self.class)
     }
 
     // Tells whether a ledger with n records of a kind may remember them.

@@ -1,6 +1,8 @@
 -- The public functions of `record`.
 use Rattle.record.proofs.factors.Factors.of.Reads as factors-of
 use Rattle.record.proofs.factors.Factors.is_in_range.Reads as is-in-range
+use Rattle.record.proofs.is_factor.Reads as is-factor
+use Rattle.record.proofs.is_share.Reads as is-share
 use Rattle.record.proofs.period.Reads as period
 use Rattle.record.proofs.kind.Reads as kind
 use Rattle.record.proofs.climate.Reads as climate
@@ -17,6 +19,12 @@ factors-of-one = by-equation (λ κs a r s p. p)
 
 pub is-in-range-one : OneAnswer is-in-range.Learnt
 is-in-range-one = by-equation (λ κs a r s p. p)
+
+pub is-factor-one : OneAnswer is-factor.Learnt
+is-factor-one = by-equation (λ κs a r s p. p)
+
+pub is-share-one : OneAnswer is-share.Learnt
+is-share-one = by-equation (λ κs a r s p. p)
 
 pub period-one : OneAnswer period.Learnt
 period-one = by-equation (λ κs a r s p. p)

@@ -6,5 +6,5 @@ use Rattle.year.proofs.Year.is_in_range.Tie as tie
 pub is-in-range-spec : {M : Type 1} → statement M
 is-in-range-spec =
     tie.close
-    (tie.spec (λ c. search needs) (λ c κs. search needs) (λ c κs. search needs)
-    (λ c. rw (c .is-class .ensures, c .before .before .is-between .ensures)))
+    (tie.spec (λ c. search needs) (λ c κs. search needs) (λ c. search needs) (λ c κs. search needs) (λ c κs. search needs)
+    (λ c. rw (c .is-class .ensures, c .before .is-share .ensures, c .before .before .before .is-factor .ensures)))
