@@ -28,14 +28,14 @@ pub record WithinCeiling (l : Ledger) (t : ℕ) : Type 0 where
 within : (l : Ledger) (t : ℕ) → l .n ≤ mostRecords → broughtAt l t ≤ ceilingOf (l .n) t → releasedAt l t + stockAt l t ≡ broughtAt l t → WithinCeiling l t
 within l t few high parts = record { kept = omega arith; ceiling = high; small = omega (arith, ceiling-most (l .n) t few); parted = parts }
 
+abbrev pub YearSound : Ledger → Type 0
+YearSound l = soundYear (l .n) (l .kind) (l .year) ≡ true
+
 pub record Sound (l : Ledger) : Type 0 where
   pub few : l .n ≤ mostRecords
   pub at : (t : ℕ) → t < 8 → WithinCeiling l t
   pub coded : (l .n ≡ 0 → ⊥) → (isKind (l .kind) ≡ true) × (isClimate (l .climate) ≡ true)
-  pub year : soundYear (l .n) (l .kind) (l .year) ≡ true
-
-abbrev YearSound : Ledger → Type 0
-YearSound l = soundYear (l .n) (l .kind) (l .year) ≡ true
+  pub year : YearSound l
 
 -- a ledger with no records
 empty : (l : Ledger) → l .n ≤ mostRecords → l .n ≡ 0 → allZero l ≡ true → YearSound l → Sound l

@@ -59,8 +59,7 @@ pub fn run(ledger: Ledger, records: &[u8], out: &mut [u8]) -> Outcome
                 break 'records End((ledger.n - first) as u64, 9);
             }
         }
-        let next = ledger.enter(entries, bytes, &mut out[at..at + Ledger::BYTES]);
-        ledger = next;
+        ledger = ledger.enter(entries, bytes, &mut out[at..at + Ledger::BYTES]);
         at += Ledger::BYTES;
     };
     let settled = ledger.settled(before, end.0);

@@ -1,18 +1,22 @@
 -- Every accepted month has the three values of the record that began its year, and so has the ledger: by induction on the accepted
 -- records.
 use mathlib.Core.Path.{_≡_, refl, sym, ap, _∙_}
-use mathlib.Core.Bool.{Bool, true, false, not, and-false, or-false}
+use mathlib.Core.Bool.{Bool, true, false, cond, not, and-false, or-false}
 use mathlib.Core.List.{List}
-use Prim.Native.Nat.{ℕ, suc, _+_, _-_, _*_, _/_, _%_, _≤_}
+use Prim.Native.Nat.{ℕ, suc, _+_, _-_, _*_, _/_, _%_, _≤_, _<_}
 use native.Mathlib.Decide.{ℕ-discrete}
 use native.Mathlib.Omega.{arith}
-use borrow.Author.Tests.{eq-eqb, eqb-true, eqb-false, not-true}
+use borrow.Author.Tests.{eq-eqb, eqb-true, eqb-false, le-leb, not-true}
 use lib.ListN.{length}
-use Rattle.numbers.proofs.Fault.{refused-with}
-use Rattle.record.specs.Fields.{kindOf}
+use Rattle.numbers.specs.Eight.{everyOf}
+use Rattle.numbers.proofs.Eight.{every-each}
+use Rattle.numbers.proofs.Fault.{refused-with, parted}
+use Rattle.waste.specs.Waste.{massLimit}
+use Rattle.record.specs.Fields.{kindOf, massOf}
+use Rattle.record.specs.Ranges.{light}
 use Rattle.year.specs.Year.{yearOf, months, beginsYear, shares, remembered}
 use Rattle.year.specs.declared.Year.{Year}
-use Rattle.year.proofs.Laws.{nothing-kept, remembers-own, unshared}
+use Rattle.year.proofs.Laws.{nothing-kept, remembers-own, unshared, not-shared}
 use Rattle.refusal.specs.Refusal.{faultsOf}
 use Rattle.ledger.specs.Stock.{fresh, after}
 use Rattle.ledger.specs.Refusal.{sound, refusalOf}
@@ -23,7 +27,7 @@ use Rattle.ledger.proofs.Accepted as step
 use Rattle.ledger.proofs.Take.{take-refusal}
 use Rattle.promises.specs.Offering.{Offering, recordsIn}
 use Rattle.promises.specs.Exact.{recordAt}
-use Rattle.promises.specs.Promises.{SameYear, MonthsShare, NotTheYears}
+use Rattle.promises.specs.Promises.{SameYear, MonthsShare, PastEight, NotTheYears}
 use Rattle.promises.proofs.OneByOne.{withOne, OneByOne, none-yet, one-more, records-more, n-counts}
 use Rattle.promises.proofs.Stocks.{record-earlier, record-latest, all-counted}
 
@@ -115,9 +119,29 @@ months-share o r =
       yearly-zero = λ year. nothing-kept (o .ledger .n) (o .ledger .kind) (o .ledger .year) (sound-is (o .ledger) (ledger-sound o r) .year) (rw year);
     }
 
+not-the-years : (l : Ledger) (bytes : List ℕ) → shares (l .n) (l .year) bytes ≡ false → NotTheYears l bytes
+not-the-years l bytes e = let u = unshared (l .n) (l .year) bytes e in record { by-month = u .0; mid-year = u .1 .0; unlike = u .1 .1 }
+
+-- where none of 1 to 8 is there, the year decides, and then the masses
+module _ (l : Ledger) (bytes : List ℕ) (room : ℕ) (past : PastEight l bytes room) where
+  decides : takeOf l bytes room .refusal ≡ cond (not (shares (l .n) (l .year) bytes)) 17 (cond (not (everyOf (light bytes) 8)) 9 0)
+  unfolding refusalOf faultsOf
+  decides =
+      take-refusal l bytes room ∙ parted 17 (faultsOf (sound l) (l .n) (l .kind) (l .climate) (l .year) bytes room) refl .1 past
+
+  pub always-17 : NotTheYears l bytes → takeOf l bytes room .refusal ≡ 17
+  always-17 u = decides ∙ simp (not-shared (l .n) (l .year) bytes (u .by-month) (u .mid-year) (u .unlike))
+
+  pub year-kept : (NotTheYears l bytes → ⊥) → ((t : ℕ) → t < 8 → massOf bytes t ≤ massLimit) → takeOf l bytes room .refusal ≡ 0
+  unfolding light
+  year-kept kept few = by (shares (l .n) (l .year) bytes) refl
+    where
+      by : (b : Bool) → shares (l .n) (l .year) bytes ≡ b → takeOf l bytes room .refusal ≡ 0
+      by true e = decides ∙ simp (e, every-each (light bytes) 8 (λ t place. le-leb (massOf bytes t) massLimit (few t place)))
+      by false e = absurd (kept (not-the-years l bytes e))
+
 pub only-17 : (l : Ledger) (bytes : List ℕ) (room : ℕ) → takeOf l bytes room .refusal ≡ 17 → NotTheYears l bytes
 unfolding refusalOf faultsOf
 only-17 l bytes room e =
     let there = refused-with 16 (faultsOf (sound l) (l .n) (l .kind) (l .climate) (l .year) bytes room) (sym (take-refusal l bytes room) ∙ e) in
-    let u = unshared (l .n) (l .year) bytes (not-true (shares (l .n) (l .year) bytes) (rw (or-false (not (shares (l .n) (l .year) bytes))) at there)) in
-    record { by-month = u .0; mid-year = u .1 .0; unlike = u .1 .1 }
+    not-the-years l bytes (not-true (shares (l .n) (l .year) bytes) (rw (or-false (not (shares (l .n) (l .year) bytes))) at there))

@@ -35,7 +35,7 @@ use Rattle.promises.proofs.OneRun.{one-run}
 use Rattle.promises.proofs.Site.{kept-site}
 use Rattle.promises.proofs.Worked.{worked}
 use Rattle.promises.proofs.Sorting.{sorted-where, sorted-well, sorted-light}
-use Rattle.promises.proofs.Months.{months-share, only-17}
+use Rattle.promises.proofs.Months.{months-share, only-17, always-17, year-kept}
 
 -- Every rate of a type that decays is in the table, by one test over the types and climates.
 rate? : (t climate : ℕ) → Bool
@@ -129,6 +129,8 @@ promises =
       released-total = λ offers. released-total (offering offers) (one-by-one offers);
       months-share = λ offers. months-share (offering offers) (one-by-one offers);
       only-17 = only-17;
+      always-17 = always-17;
+      year-kept = year-kept;
       yearly-not-17 = λ l bytes room e r. omega (arith, only-17 l bytes room r .by-month, e);
       worked-figures = worked;
       sorted-where = sorted-where;

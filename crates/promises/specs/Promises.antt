@@ -8,14 +8,17 @@ use Prim.Native.Nat.{ℕ, _+_, _-_, _*_, _/_, _%_, _^_, _≤_, _<_}
 use native.Mathlib.Omega.{arith}
 use lib.ListN.{length, getD}
 use Rattle.numbers.specs.Eight.{eight, sumOf, allOf}
+use Rattle.numbers.specs.Fault.{firstOf, ahead}
 use Rattle.numbers.specs.Fraction.{Fraction, over, whole, _⊕_, _≼_, _≺_, _≈_}
 use Rattle.numbers.specs.Lists.{added, Each}
 use Rattle.decay.specs.Series.{E, StandsFor, exponent}
-use Rattle.waste.specs.Waste.{rateOf}
+use Rattle.waste.specs.Waste.{massLimit, rateOf}
 use Rattle.record.specs.Fields.{recordBytes, periodOf, kindOf, climateOf, factorOf, classOf, capturedOf, massOf, depositOf}
 use Rattle.stock.specs.Stock.{entryAt}
 use Rattle.year.specs.Year.{yearOf, noYear}
+use Rattle.refusal.specs.Refusal.{faultsOf}
 use Rattle.ledger.specs.Stock.{fresh, broughtAt, stockAt, releasedAt}
+use Rattle.ledger.specs.Refusal.{sound}
 use Rattle.ledger.specs.Take.{totalStock, totalReleased, takeOf, outputFields}
 use Rattle.ledger.specs.History.{Offer, Turn, recordsOf, runOf, outOf, outcomeOf}
 use Rattle.ledger.specs.declared.book.Ledger.{Ledger}
@@ -117,6 +120,10 @@ pub record MonthsShare (o : Offering) : Type 0 where
   -- 'Yearly runs keep these fields zero.'
   pub yearly-zero : o .ledger .kind ≡ 1 → o .ledger .year ≡ noYear
 
+-- Nothing that is tested ahead of 17 refuses a record: none of 1 to 8 is there.
+abbrev pub PastEight : Ledger → List ℕ → (room : ℕ) → Type 0
+PastEight l bytes room = firstOf (ahead 17 (faultsOf (sound l) (l .n) (l .kind) (l .climate) (l .year) bytes room)) ≡ 0
+
 -- A record that is not as the year of a ledger has it: monthly, in the middle of a year, and with another of the three values.
 pub record NotTheYears (l : Ledger) (bytes : List ℕ) : Type 0 where
   pub by-month : kindOf bytes ≡ 2
@@ -151,6 +158,11 @@ pub record Promises : Type 0 where
   -- 17 refuses nothing but a record that is not as its year has it, and so never a yearly one.
   pub only-17 : (l : Ledger) (bytes : List ℕ) (room : ℕ) → takeOf l bytes room .refusal ≡ 17 → NotTheYears l bytes
   pub yearly-not-17 : (l : Ledger) (bytes : List ℕ) (room : ℕ) → kindOf bytes ≡ 1 → takeOf l bytes room .refusal ≡ 17 → ⊥
+  -- '17, after 8 and before 9': where none of 1 to 8 is there, it refuses every such record, whatever its masses, and any other is
+  -- accepted if its masses are within their limit.
+  pub always-17 : (l : Ledger) (bytes : List ℕ) (room : ℕ) → PastEight l bytes room → NotTheYears l bytes → takeOf l bytes room .refusal ≡ 17
+  pub year-kept : (l : Ledger) (bytes : List ℕ) (room : ℕ) → PastEight l bytes room → (NotTheYears l bytes → ⊥)
+      → ((t : ℕ) → t < 8 → massOf bytes t ≤ massLimit) → takeOf l bytes room .refusal ≡ 0
   -- 'P1 to P10 are one table proved with a single statement from the definitions'
   pub worked-figures : allOf (map holds rows) ≡ true
   -- Document 02, request a: a total and samples are accepted exactly where the request allows them, and the masses are then as it

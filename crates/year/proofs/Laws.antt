@@ -5,7 +5,7 @@ use mathlib.Core.List.{List}
 use Prim.Native.Nat.{ℕ, _+_, _%_, _≤_}
 use native.Mathlib.Decide.{ℕ-discrete}
 use native.Mathlib.Omega.{arith}
-use borrow.Author.Tests.{eq-eqb, eqb-true, eqb-false, leb-true, lt-ltb, le-ltb}
+use borrow.Author.Tests.{eq-eqb, ne-eqb, eqb-true, eqb-false, leb-true, lt-ltb, le-ltb}
 use lib.Dec.{eqb, ltb}
 use Rattle.numbers.proofs.Eight.{three-true, all-true}
 use Rattle.waste.specs.Waste.{isClass}
@@ -98,3 +98,12 @@ module _ (n : ℕ) (year : Year) (bytes : List ℕ) where
           ) at e) in
           (eqb-true (kindOf bytes) 2 m, (eqb-false (n % months) 0 b, unlike))
       by false m b′ b = absurd (true≢false (simp m at e))
+
+  -- And such a record does not share.
+  pub not-shared : kindOf bytes ≡ 2 → (n % months ≡ 0 → ⊥) → (yearOf bytes ≡ year → ⊥) → shares n year bytes ≡ false
+  unfolding shares
+  not-shared month mid unlike = simp (eq-eqb (kindOf bytes) 2 month, ne-eqb (n % months) 0 mid) (by (repeats year bytes) refl)
+    where
+      by : (b : Bool) → repeats year bytes ≡ b → repeats year bytes ≡ false
+      by true e = absurd (unlike (repeated e))
+      by false e = e
