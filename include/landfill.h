@@ -87,6 +87,9 @@ enum {
     LANDFILL_UNMANAGED_SHALLOW = 4     /* 40 %, and stockpiles */
 };
 
+/* Codes of landfill_factor_by_codes: the lower or the higher value of Table 3 of TOOL04. */
+enum { LANDFILL_LOWER = 1, LANDFILL_HIGHER = 2 };
+
 /* Waste types. These numbers never follow a language or a sort. */
 enum {
     LANDFILL_WOOD = 1,            /* wood and wood products */
@@ -174,8 +177,8 @@ enum {
  * of one year differ in a factor that they now share, the run stops at the first such month with 17; the year's own factors
  * have to go into its records, and then into the report. */
 
-/* Refusals. A record is tested in the order of 1 to 8, then 17, then 9, and a total with its samples in the order of 14 to
- * 16; the first that holds is the answer. */
+/* Refusals. A record is tested in the order of 1 to 8, then 17, then 9, a total with its samples in the order of 14 to 16,
+ * and uncertainties in the order of 18 and 19; the first that holds is the answer. */
 enum {
     LANDFILL_ACCEPTED = 0,          /* not refused */
     LANDFILL_NOT_48_BYTES = 1,      /* the record is not 48 bytes */
@@ -194,7 +197,9 @@ enum {
     LANDFILL_TOTAL_TOO_LARGE = 14,  /* the total is over 1,000,000,000 kg */
     LANDFILL_NOT_THE_SAMPLES = 15,  /* the kind is not 1 or 2, or the samples are not whole, or not as many as it asks */
     LANDFILL_SAMPLE_NOT_WHOLE = 16, /* the fractions of a sample do not add up to 10000 */
-    LANDFILL_NOT_THE_YEARS = 17     /* correction factor, site class or f differs from that of the year's first month */
+    LANDFILL_NOT_THE_YEARS = 17,    /* correction factor, site class or f differs from that of the year's first month */
+    LANDFILL_OVER_100 = 18,         /* an uncertainty that was entered as a percentage is over 100 */
+    LANDFILL_NOT_A_CHOICE = 19      /* a code of an uncertainty is not 1 or 2 */
 };
 
 /* Makes the image a fresh ledger, all zero, and answers 0.
@@ -254,6 +259,20 @@ uint8_t landfill_listing(const uint8_t *records, size_t records_len, uint8_t *te
 uint8_t landfill_masses(uint8_t kind, uint64_t total, const uint8_t *samples, size_t samples_len,
                         uint32_t masses[LANDFILL_TYPES]);
 
+/* Works the correction factor out from uncertainties and answers 0: equations (3) and (4) of TOOL04, its option 2.
+ * a, b, c, d, e and g are whole percentages, 0 to 100: the uncertainty of the masses W (a), of DOC (b), of DOCf (c), of F (d),
+ * of the methane correction factor (e) and of the exponential term (g). With S the sum of their squares, *factor becomes
+ * the greatest whole p up to 100 with p * p * S <= (10000 - 100 * p)^2. That is 100 / (1 + v) rounded down, v being the root
+ * of S over 100. It is 28 to 100, so that a record takes it: it goes into the field at LANDFILL_RECORD_AT_FACTOR.
+ * Answers 18 with *factor 0 when one of the six is over 100. */
+uint8_t landfill_factor(uint8_t a, uint8_t b, uint8_t c, uint8_t d, uint8_t e, uint8_t g, uint8_t *factor);
+
+/* The same, where c, d, e and g are chosen as Table 3 of TOOL04 instructs: code 1 takes the lower value, 2 the higher one,
+ *     of c 5 or 15, of d 0 or 5, of e 0 or 50, of g 5 or 20 percent.
+ * a and b are percentages, as above. *factor is what landfill_factor gives for the chosen values; it is 39 to 100.
+ * Answers 18 when a or b is over 100, then 19 when a code is not 1 or 2, with *factor 0. */
+uint8_t landfill_factor_by_codes(uint8_t a, uint8_t b, uint8_t c, uint8_t d, uint8_t e, uint8_t g, uint8_t *factor);
+
 /* Helpers, compiled into the caller. They take buffers byte by byte, so that byte order and alignment do not matter. */
 
 /* Writes a number into so many bytes, little-endian. A number too large for them becomes the largest that they hold. */
@@ -271,6 +290,13 @@ static inline uint64_t landfill_get(const uint8_t *bytes, size_t count)
     uint64_t number = 0;
     while (count-- > 0) number = number << 8 | bytes[count];
     return number;
+}
+
+/* A wider number as the byte that landfill_factor and landfill_factor_by_codes take: over 255 it becomes 255, which they
+ * refuse, so that 256 is not taken for 0. A number below 0 becomes 255 too. */
+static inline uint8_t landfill_byte(uint64_t number)
+{
+    return number > 255 ? 255 : (uint8_t)number;
 }
 
 /* The fields of a record, wider than its bytes. Masses go by type number: mass[LANDFILL_FOOD]; mass[0] is no type's. */
@@ -403,7 +429,9 @@ static inline const char *landfill_refusal_text(unsigned refusal)
         "The total is over 1,000,000,000 kg.",
         "The kind is not a code, or the samples are not 12 to 400 whole ones for a year or 3 for a month.",
         "The fractions of a sample do not add up to 100 percent.",
-        "The correction factor, the site class or the captured share is not that of the year's first month."
+        "The correction factor, the site class or the captured share is not that of the year's first month.",
+        "An uncertainty is over 100 percent.",
+        "A choice between the lower and the higher value is not 1 or 2."
     };
     return refusal < sizeof texts / sizeof texts[0] ? texts[refusal] : "No refusal has this number.";
 }
