@@ -5,7 +5,8 @@
 target=target/c
 library='' seed=1
 flags='-std=c11 -O2 -Wall -Wextra -Werror -Iinclude -Itests/c'
-differential='differential years offers sides inputs ledgers reference entries' # the files of the differential test
+# The files of the differential test.
+differential='differential years uncertainties offers sides inputs ledgers reference entries'
 
 stop() { printf '%s\n' "$*" >&2; exit 2; }
 

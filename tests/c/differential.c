@@ -3,6 +3,7 @@
 #include "offers.h"
 #include "reference.h"
 #include "sides.h"
+#include "uncertainties.h"
 #include "years.h"
 
 #include <inttypes.h>
@@ -301,6 +302,7 @@ int main(int count, char **words)
     reference_start();
     all_lengths();
     all_faults();
+    all_uncertainties();
     all_years();
     all_look_ups();
     all_cells();

@@ -320,3 +320,42 @@ uint8_t reference_masses(uint8_t kind, uint64_t total, const uint8_t *samples, s
     }
     return 0;
 }
+
+/* ---- The correction factor from uncertainties */
+
+/* The lower and the higher value of c, d, e and g, percent. */
+static const uint8_t VALUES[4][2] = {{5, 15}, {0, 5}, {0, 50}, {5, 20}};
+
+/* Equation (4) in percent, rounded down. */
+static uint64_t factor_of(uint64_t S)
+{
+    uint64_t p = 100;
+    while (p * p * S > (10000 - 100 * p) * (10000 - 100 * p)) p--;
+    return p;
+}
+
+uint8_t reference_factor(uint8_t a, uint8_t b, uint8_t c, uint8_t d, uint8_t e, uint8_t g, uint8_t *factor)
+{
+    const uint64_t percentages[6] = {a, b, c, d, e, g};
+    uint64_t S = 0;
+    *factor = 0;
+    for (int i = 0; i < 6; i++) {
+        if (percentages[i] > 100) return 18;
+        S += percentages[i] * percentages[i];
+    }
+    *factor = (uint8_t)factor_of(S);
+    return 0;
+}
+
+uint8_t reference_factor_by_codes(uint8_t a, uint8_t b, uint8_t c, uint8_t d, uint8_t e, uint8_t g, uint8_t *factor)
+{
+    const uint8_t codes[4] = {c, d, e, g};
+    uint8_t chosen[4];
+    *factor = 0;
+    if (a > 100 || b > 100) return 18;
+    for (int i = 0; i < 4; i++) {
+        if (!between(1, codes[i], 2)) return 19;
+        chosen[i] = VALUES[i][codes[i] - 1];
+    }
+    return reference_factor(a, b, chosen[0], chosen[1], chosen[2], chosen[3], factor);
+}

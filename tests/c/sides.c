@@ -12,10 +12,12 @@
 
 enum { PATTERN = 0xA5 };
 
-static const struct entries LIBRARY = {landfill_fresh, landfill_take,  landfill_run,     landfill_totals, landfill_entry,
-                                       landfill_cell,  landfill_point, landfill_listing, landfill_masses};
-static const struct entries REFERENCE = {reference_fresh, reference_take,  reference_run,     reference_totals, reference_entry,
-                                         reference_cell,  reference_point, reference_listing, reference_masses};
+static const struct entries LIBRARY = {landfill_fresh,  landfill_take,   landfill_run,   landfill_totals,
+                                       landfill_entry,  landfill_cell,   landfill_point, landfill_listing,
+                                       landfill_masses, landfill_factor, landfill_factor_by_codes};
+static const struct entries REFERENCE = {reference_fresh,  reference_take,   reference_run,   reference_totals,
+                                         reference_entry,  reference_cell,   reference_point, reference_listing,
+                                         reference_masses, reference_factor, reference_factor_by_codes};
 static const char *const NAMES[PLACES] = {"ledger", "records", "out", "answer", "text", "samples"};
 
 struct given given;
@@ -120,6 +122,8 @@ static void print_numbers(const char *title, const struct side *side)
     for (int i = 0; i < 7; i++) printf(" %" PRIx64, real[i]);
     printf("; masses");
     for (int i = 0; i < 24; i++) printf(" %" PRIx32, it->masses[i / 8][i % 8]);
+    printf("; factors");
+    for (int i = 0; i < 24; i++) printf(" %x", it->factors[i / 8][i % 8]);
     printf("\n");
 }
 
@@ -130,7 +134,10 @@ static void print_difference(const char *name)
     printf("difference at call %" PRIu64 ", %s\n", compared, name);
     printf("by value, where the entry takes it: kind %u, rate %u, filled %u, kg %a (bits %" PRIx64 ")", given.kind, given.rate,
            given.filled, given.kg, kg);
-    printf(", figure %" PRIu64 ", bound %" PRIu64 ", total %" PRIu64 "\n", given.figure, given.bound, given.total);
+    printf(", figure %" PRIu64 ", bound %" PRIu64 ", total %" PRIu64, given.figure, given.bound, given.total);
+    printf(", uncertainties");
+    for (int i = 0; i < 6; i++) printf(" %u", given.uncertainties[i]);
+    printf("\n");
     print_numbers("library  ", &library);
     print_numbers("reference", &reference);
     for (enum place place = 0; place < PLACES; place++)

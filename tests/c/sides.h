@@ -10,11 +10,12 @@ enum place { LEDGER, RECORDS, OUT, ANSWER, TEXT, SAMPLES, PLACES };
 enum { ZONE = 64, LONGEST = 131072, ROOM = ZONE + 8 + LONGEST + ZONE };
 
 /* The numbers that an entry writes behind pointers stand at the odd places; the even ones are red zones. A place of masses
- * is a row of eight, and where an entry writes one mass, it is the first of them. */
+ * or factors is a row of eight, and where an entry writes one of them, it is the first. */
 struct numbers {
     uint64_t whole[7];
     double real[7];
     uint32_t masses[3][8];
+    uint8_t factors[3][8];
 };
 
 struct side {
@@ -29,6 +30,7 @@ struct given {
     uint16_t rate;
     double kg;
     uint64_t figure, bound, total;
+    uint8_t uncertainties[6]; /* a, b, c, d, e and g: percentages, or from c on codes */
 };
 
 /* The entries of landfill.h, of either side. */
@@ -42,6 +44,8 @@ struct entries {
     uint8_t (*point)(uint64_t, uint64_t, double *, double *, double *);
     uint8_t (*listing)(const uint8_t *, size_t, uint8_t *, size_t, uint64_t *);
     uint8_t (*masses)(uint8_t, uint64_t, const uint8_t *, size_t, uint32_t *);
+    uint8_t (*factor)(uint8_t, uint8_t, uint8_t, uint8_t, uint8_t, uint8_t, uint8_t *);
+    uint8_t (*factor_by_codes)(uint8_t, uint8_t, uint8_t, uint8_t, uint8_t, uint8_t, uint8_t *);
 };
 
 typedef void call(const struct entries *entries, struct side *side);

@@ -55,3 +55,13 @@ uint8_t landfill_masses(uint8_t kind, uint64_t total, const uint8_t *samples, si
 {
     return reference_masses(kind, total, samples, samples_len, masses);
 }
+
+uint8_t landfill_factor(uint8_t a, uint8_t b, uint8_t c, uint8_t d, uint8_t e, uint8_t g, uint8_t *factor)
+{
+    return reference_factor(a, b, c, d, e, g, factor);
+}
+
+uint8_t landfill_factor_by_codes(uint8_t a, uint8_t b, uint8_t c, uint8_t d, uint8_t e, uint8_t g, uint8_t *factor)
+{
+    return reference_factor_by_codes(a, b, c, d, e, g, factor);
+}
