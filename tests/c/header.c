@@ -35,6 +35,7 @@ static void check_codes(void)
                                    LANDFILL_TROPICAL_WET};
     static const int classes[] = {LANDFILL_ANAEROBIC_MANAGED, LANDFILL_SEMI_AEROBIC_MANAGED, LANDFILL_UNMANAGED_DEEP,
                                   LANDFILL_UNMANAGED_SHALLOW};
+    static const int choices[] = {LANDFILL_LOWER, LANDFILL_HIGHER};
     static const int types[] = {LANDFILL_WOOD, LANDFILL_PAPER, LANDFILL_FOOD, LANDFILL_TEXTILES, LANDFILL_GARDEN,
                                 LANDFILL_INERT, LANDFILL_DOMESTIC_SLUDGE, LANDFILL_PAPER_SLUDGE};
     static const int refusals[] = {LANDFILL_ACCEPTED, LANDFILL_NOT_48_BYTES, LANDFILL_NO_ROOM, LANDFILL_UNSOUND,
@@ -42,13 +43,14 @@ static void check_codes(void)
                                    LANDFILL_OUT_OF_RANGE, LANDFILL_MASS_TOO_LARGE, LANDFILL_CELL_EMPTY,
                                    LANDFILL_CELL_NOT_WHOLE, LANDFILL_CELL_OUTSIDE, LANDFILL_POINT_TOO_LARGE,
                                    LANDFILL_TOTAL_TOO_LARGE, LANDFILL_NOT_THE_SAMPLES, LANDFILL_SAMPLE_NOT_WHOLE,
-                                   LANDFILL_NOT_THE_YEARS};
+                                   LANDFILL_NOT_THE_YEARS, LANDFILL_OVER_100, LANDFILL_NOT_A_CHOICE};
     check_row("a kind", kinds, 2, 1, 1);
     check_row("a climate", climates, 4, 1, 1);
     check_row("a site class", classes, 4, 1, 1);
+    check_row("a choice of an uncertainty", choices, 2, 1, 1);
     check_row("a waste type", types, 8, 1, 1);
     check("the number of types", LANDFILL_TYPES == 8);
-    check_row("a refusal", refusals, 18, 0, 1);
+    check_row("a refusal", refusals, 20, 0, 1);
 }
 
 static void check_sizes(void)
@@ -187,6 +189,17 @@ static void check_numbers(void)
     check("landfill_get of no byte", landfill_get(eight, 0) == 0);
 }
 
+static void check_byte(void)
+{
+    static const uint64_t too_large[] = {256, 257, 511, 65536, (uint64_t)1 << 32, ((uint64_t)1 << 32) + 5, UINT64_MAX};
+    static const int below_zero[] = {-1, -156, -256, -65536};
+    unsigned number;
+    size_t i;
+    for (number = 0; number <= 255; number++) check("landfill_byte", landfill_byte(number) == number);
+    for (i = 0; i < 7; i++) check("landfill_byte of a number too large", landfill_byte(too_large[i]) == 255);
+    for (i = 0; i < 4; i++) check("landfill_byte of a number below 0", landfill_byte(below_zero[i]) == 255);
+}
+
 static void check_output(void)
 {
     /* The second year that docs/METHOD.md works by hand. */
@@ -280,14 +293,16 @@ static void check_text(unsigned refusal, const char *text)
 static void check_texts(void)
 {
     unsigned refusal;
-    for (refusal = 0; refusal <= 17; refusal++) check("a text", strchr(landfill_refusal_text(refusal), '.') != NULL);
+    for (refusal = 0; refusal <= 19; refusal++) check("a text", strchr(landfill_refusal_text(refusal), '.') != NULL);
     check_text(LANDFILL_ACCEPTED, "Accepted.");
     check_text(LANDFILL_OUT_OF_TURN, "The period is not the next in turn.");
     check_text(LANDFILL_POINT_TOO_LARGE, "Figure and bound are too large to be drawn exactly.");
     check_text(LANDFILL_SAMPLE_NOT_WHOLE, "The fractions of a sample do not add up to 100 percent.");
     check_text(LANDFILL_NOT_THE_YEARS,
                "The correction factor, the site class or the captured share is not that of the year's first month.");
-    check_text(18, "No refusal has this number.");
+    check_text(LANDFILL_OVER_100, "An uncertainty is over 100 percent.");
+    check_text(LANDFILL_NOT_A_CHOICE, "A choice between the lower and the higher value is not 1 or 2.");
+    check_text(20, "No refusal has this number.");
     check_text((unsigned)-1, "No refusal has this number.");
 }
 
@@ -300,6 +315,7 @@ int main(void)
     check_sample();
     check_masses();
     check_numbers();
+    check_byte();
     check_output();
     check_released();
     check_year();
