@@ -1,4 +1,5 @@
-/* A first program with the library: two years of the site that docs/METHOD.md works by hand, and a month that was sorted.
+/* A first program with the library: two years of the site that docs/METHOD.md works by hand, a month that was sorted, and a
+ * correction factor from uncertainties.
  * Build it with: gcc -Iinclude tests/c/example.c target/staticlib/libabi.a */
 #include "landfill.h"
 
@@ -46,6 +47,17 @@ static void print_ledger(const uint8_t *ledger, size_t ledger_len)
            landfill_get_released_so_far(ledger, LANDFILL_INERT));
 }
 
+/* Takes a record into a fresh ledger. */
+static void take_first(const char *what, const struct landfill_record *fields)
+{
+    uint8_t ledger[LANDFILL_LEDGER_BYTES], record[LANDFILL_RECORD_BYTES];
+    uint8_t out[LANDFILL_RECORD_BYTES], answer[LANDFILL_ANSWER_BYTES];
+    landfill_put_record(record, fields);
+    landfill_fresh(ledger, sizeof ledger);
+    expect(what, landfill_take(ledger, sizeof ledger, record, sizeof record, out, sizeof out, answer, sizeof answer));
+    print_output(out);
+}
+
 /* A month whose loads were weighed, but not by type: three of them were sorted, in hundredths of a percent. */
 static void sorted_month(struct landfill_record month)
 {
@@ -53,8 +65,7 @@ static void sorted_month(struct landfill_record month)
         {[LANDFILL_PAPER] = 1800, [LANDFILL_FOOD] = 6000, [LANDFILL_INERT] = 2200},
         {[LANDFILL_PAPER] = 2150, [LANDFILL_FOOD] = 5850, [LANDFILL_INERT] = 2000},
         {[LANDFILL_PAPER] = 1475, [LANDFILL_FOOD] = 6025, [LANDFILL_INERT] = 2500}};
-    uint8_t samples[3 * LANDFILL_SAMPLE_BYTES], ledger[LANDFILL_LEDGER_BYTES], record[LANDFILL_RECORD_BYTES];
-    uint8_t out[LANDFILL_RECORD_BYTES], answer[LANDFILL_ANSWER_BYTES];
+    uint8_t samples[3 * LANDFILL_SAMPLE_BYTES];
     uint32_t masses[LANDFILL_TYPES];
     for (size_t n = 0; n < 3; n++) landfill_put_sample(samples + LANDFILL_SAMPLE_BYTES * n, sorted[n]);
     expect("samples", landfill_masses(LANDFILL_MONTHLY, weighed(52.2), samples, sizeof samples, masses));
@@ -63,11 +74,20 @@ static void sorted_month(struct landfill_record month)
     landfill_set_masses(&month, masses);
     printf("52200 kg by three samples: paper %" PRIu64 ", food %" PRIu64 ", inert %" PRIu64 "\n", month.mass[LANDFILL_PAPER],
            month.mass[LANDFILL_FOOD], month.mass[LANDFILL_INERT]);
+    take_first("month 1", &month);
+}
 
-    landfill_put_record(record, &month);
-    landfill_fresh(ledger, sizeof ledger);
-    expect("month 1", landfill_take(ledger, sizeof ledger, record, sizeof record, out, sizeof out, answer, sizeof answer));
-    print_output(out);
+/* A managed site with a factor of its own: masses and DOC are 10 percent uncertain, the others by their lower values. */
+static void managed_year(struct landfill_record year)
+{
+    uint8_t factor;
+    expect("uncertainties", landfill_factor_by_codes(10, 10, LANDFILL_LOWER, LANDFILL_LOWER, LANDFILL_LOWER, LANDFILL_LOWER,
+                                                     &factor));
+    year.period = 1;
+    year.site_class = LANDFILL_ANAEROBIC_MANAGED;
+    year.factor = factor;
+    printf("correction factor from uncertainties: %" PRIu32 " %%\n", year.factor);
+    take_first("year 1", &year);
 }
 
 int main(void)
@@ -121,5 +141,6 @@ int main(void)
     printf("2.01 t by landfill_kg: %" PRIu32 " kg\n", weighed(2.01));
 
     sorted_month(year);
+    managed_year(year);
     return 0;
 }
