@@ -11,6 +11,7 @@ ghost use Rattle.ledger.specs.History.{outOf};
 ghost use Rattle.ledger.specs.Take.{totalsOf};
 ghost use Rattle.image.specs.Image.{imageBytes, ledgerOf};
 ghost use Rattle.samples.specs.Samples.{sortedOf};
+ghost use Rattle.uncertainty.specs.Uncertainty.{byPercentages, byCodes};
 ghost use Rattle.lines.specs.Listing.{listedOf, textOf};
 ghost use Rattle.calls.specs.Calls.{takeHere, takeImage, takeOut, takeAnswer, runHere, runImage};
 ghost use Rattle.abi.specs.Entries.{freshLeft, cellOf};
@@ -116,6 +117,37 @@ pub extern "C" fn landfill_masses(kind: u8, total: u64, samples: &[u8], masses: 
     let parts = sorted.masses;
     *masses = parts;
     sorted.refusal
+}
+
+// Answers 0 and the correction factor in percent for six uncertainties in percent, or 18 and factor 0.
+#[no_mangle]
+pub extern "C" fn landfill_factor(a: u8, b: u8, c: u8, d: u8, e: u8, g: u8, factor: &mut u8) -> u8
+    ensures { λ r. ⌜ r ≡ byPercentages a b c d e g .refusal ⌝ }
+    ensures { λ _. ⌜ now (factor .exit) ≡ byPercentages a b c d e g .factor ⌝ }
+{
+    let answer = uncertainty::by_percentages(a, b, c, d, e, g);
+    *factor = answer.factor;
+    answer.refusal
+}
+
+// Answers 0 and the correction factor in percent for uncertainties a and b in percent and four chosen by codes, or 18 or 19 and
+// factor 0.
+#[no_mangle]
+pub extern "C" fn landfill_factor_by_codes(
+    a: u8,
+    b: u8,
+    c: u8,
+    d: u8,
+    e: u8,
+    g: u8,
+    factor: &mut u8,
+) -> u8
+    ensures { λ r. ⌜ r ≡ byCodes a b c d e g .refusal ⌝ }
+    ensures { λ _. ⌜ now (factor .exit) ≡ byCodes a b c d e g .factor ⌝ }
+{
+    let answer = uncertainty::by_codes(a, b, c, d, e, g);
+    *factor = answer.factor;
+    answer.refusal
 }
 
 // Answers 0 and a figure's point of the chart, or 13 and zeros.

@@ -42,6 +42,11 @@ fn judged(letter: u8, length: usize) -> u8
         b'c' => within(9, length, 9),
         b'p' => within(16, length, 16),
         b'm' => within(9, length, LONGEST),
+        b'u' | b'k' => within(
+            uncertainty_cases::PAYLOAD,
+            length,
+            uncertainty_cases::PAYLOAD,
+        ),
         _ => UNKNOWN_KIND,
     }
 }
@@ -56,6 +61,8 @@ fn put_line(letter: u8, payload: &[u8]) {
         b'c' => door_cases::cell(payload),
         b'p' => door_cases::point(payload),
         b'm' => samples_cases::masses(payload),
+        b'u' => uncertainty_cases::by_percentages(payload),
+        b'k' => uncertainty_cases::by_codes(payload),
         _ => (),
     }
 }
