@@ -72,6 +72,14 @@ def masses_line(payload):
     return spaced([refusal, *masses])
 
 
+def factor_line(payload):
+    return spaced(reference.factor_of(*payload))
+
+
+def factor_by_codes_line(payload):
+    return spaced(reference.factor_by_codes(*payload))
+
+
 def fields(ledger):
     return [ledger.n, ledger.kind, ledger.climate, *ledger.year, *ledger.T, *ledger.R, *ledger.released]
 
@@ -98,6 +106,8 @@ KINDS = {
     "c": Kind(cell_line, 9, 9),
     "p": Kind(point_line, 16, 16),
     "m": Kind(masses_line, 9, LONGEST),
+    "u": Kind(factor_line, 6, 6),
+    "k": Kind(factor_by_codes_line, 6, 6),
 }
 
 

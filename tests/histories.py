@@ -8,9 +8,9 @@ PLAIN = Record(1, 1, 4, 75, 10, 50, 50, 1, 28, 0, bytes(4), (0,) * 8)  # the fac
 RANGES = {"factor": (1, 100), "site_class": (1, 4), "f": (0, 10000)}  # of the year's factors
 
 
-def replaced(eight, j, value):
-    """A list of eight with another value at a place."""
-    return eight[:j] + (value,) + eight[j + 1 :]
+def replaced(values, j, value):
+    """A list with another value at a place."""
+    return values[:j] + (value,) + values[j + 1 :]
 
 
 def only(place, kg):

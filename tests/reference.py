@@ -1,4 +1,4 @@
-"""Document 01 with requests a, b and c of document 02 worked out a second time, to run the Rattle code against.
+"""Document 01 with requests a to d of document 02 worked out a second time, to run the Rattle code against.
 
 One function for each rule, in the documents' order and with their letters. Numbers are exact, and everything is a
 value: an output buffer goes in as bytes and comes back as bytes. Type j stands at place j - 1 of every list of eight.
@@ -392,3 +392,53 @@ def remembers(ledger):
     if ledger.kind != MONTHLY:
         return ledger.year == NO_YEAR
     return 1 <= factor <= 100 and site_class in CLASSES and f <= 10000
+
+
+# Document 02, request d: the correction factor from uncertainties
+
+MOST = 100  # percent, of an uncertainty and of a factor
+CODES = (1, 2)  # of the lower value and of the higher one
+VALUES = ((5, 15), (0, 5), (0, 50), (5, 20))  # the two of c, d, e and g in Table 3 of 000, in percent
+
+
+def fits(p, S):
+    """Whether p * p * S <= (10000 - 100p)^2."""
+    rest = 10000 - 100 * p
+    return p * p * S <= rest * rest
+
+
+@cache
+def greatest_percentage(S):
+    """Equation (4) rounded down: the greatest whole percentage p up to 100 that fits a sum of squares."""
+    return next(p for p in reversed(range(MOST + 1)) if fits(p, S))
+
+
+def are_percentages(*entered):
+    """Whether refusal 18 does not hold."""
+    return all(percentage <= MOST for percentage in entered)
+
+
+def are_choices(*codes):
+    """Whether refusal 19 does not hold."""
+    return all(code in CODES for code in codes)
+
+
+def chosen(*codes):
+    """The percentages c, d, e and g that four codes take."""
+    return tuple(values[CODES.index(code)] for values, code in zip(VALUES, codes, strict=True))
+
+
+def factor_of(a, b, c, d, e, g):
+    """The refusal, and the correction factor in percent that six percentages come to."""
+    if not are_percentages(a, b, c, d, e, g):
+        return 18, 0
+    return 0, greatest_percentage(a * a + b * b + c * c + d * d + e * e + g * g)
+
+
+def factor_by_codes(a, b, c, d, e, g):
+    """The same, where a and b are percentages, and c, d, e and g are codes."""
+    if not are_percentages(a, b):
+        return 18, 0
+    if not are_choices(c, d, e, g):
+        return 19, 0
+    return factor_of(a, b, *chosen(c, d, e, g))

@@ -5,7 +5,7 @@ a slip in a constant of either.
 """
 from decimal import Context, Decimal
 from fractions import Fraction
-from math import floor
+from math import floor, isqrt
 
 # Source 001, parameter DOC_j, "Default values for DOC_j": % of wet waste. Of the sludges the same cell speaks in words.
 DOC = {
@@ -56,7 +56,18 @@ PERIODS = {1: 1, 2: 12}  # in a year, by kind
 # Source 000, by kind: table 14's three samples every three months of a year, and the three of equation (8).
 LEAST_SAMPLES = {1: 3 * 4, 2: 3}
 
+# Source 000, Table 3, "Instructions for the selection of values for the factors": parameter, lower and higher value.
+UNCERTAINTIES = {
+    "a": ("W", "2%", "10%"),
+    "b": ("DOC_j", "5%", "10%"),
+    "c": ("DOC_f", "5%", "15%"),
+    "d": ("F", "0%", "5%"),
+    "e": ("MCF_y", "0%", "50%"),
+    "g": ("e^(-k_j (y-x)) (1 - e^(-k_j))", "5%", "20%"),
+}
+
 DIGITS = Context(prec=50)
+PARTS = 10**12  # of 1, in which the root of equation (3) is enclosed
 
 
 def carbon(masses):
@@ -144,3 +155,25 @@ def whole_masses(shares):
     """Each type's kg: those of all types up to it, rounded down, less those of the types ahead of it."""
     up_to = [floor(sum(shares[:j])) for j in range(9)]
     return tuple(up_to[j] - up_to[j - 1] for j in range(1, 9))
+
+
+def percentage(words):
+    """What stands in Table 3 as 5%, and the like."""
+    return Fraction(words.removesuffix("%")) / 100
+
+
+def ends(square):
+    """The root of a fraction in whole parts, rounded down and rounded up: the same number where the root is that."""
+    low = isqrt(floor(square * PARTS**2))
+    return low, low if low * low == square * PARTS**2 else low + 1
+
+
+def model_correction(V_squared):
+    """Equation (4): 1 / (1 + V) in percent, rounded down. Both ends of V have to give the same."""
+    (percent,) = {100 * PARTS // (PARTS + V) for V in ends(V_squared)}
+    return percent
+
+
+def corrected(*factors):
+    """Equations (3) and (4) for the factors a, b, c, d, e and g, in the words of Table 3."""
+    return model_correction(sum(percentage(factor) ** 2 for factor in factors))

@@ -1,7 +1,8 @@
 #!/usr/bin/env python3
 """Holds the reference to all that document 01 prints, to the sources' own tables and equations, and to demand 3.
 
-Of document 02 it holds masses from samples, the carbon released so far, and months that share the year's factors.
+Of document 02 it holds masses from samples, the carbon released so far, months that share the year's factors, and the
+correction factor from uncertainties.
 
 Prints ok and exits 0, or stops at the first check that fails.
 """
@@ -19,6 +20,7 @@ import months_checks
 import reference
 import retold
 import samples_cases
+import uncertainty_checks
 from checks import NO_VALUES, NOTHING, ROOM, check, offered
 from faults import applied
 from histories import KINDS_AND_CLIMATES, PLAIN, balanced, damaged, file_of, next_record, next_records, only, replaced
@@ -352,6 +354,10 @@ def main():
     months_checks.years_begin()
     months_checks.within_ranges()
     months_checks.in_order()
+    uncertainty_checks.printed()
+    uncertainty_checks.chosen()
+    uncertainty_checks.every_byte()
+    uncertainty_checks.in_order()
     tables()
     unlikely()
     image()
@@ -366,7 +372,9 @@ def main():
     samples_at_fault(rng)
     for kind, Z in [(2, 3)] * 300 + [(1, rng.randint(12, 40)) for _ in range(50)] + [(1, 400)] * 3:
         sampled(fair_sorting(rng, kind, Z))
+    uncertainty_checks.never_higher(rng)
     cases_page()
+    uncertainty_checks.every_sum()
     print("ok")
 
 

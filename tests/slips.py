@@ -1,7 +1,7 @@
 #!/usr/bin/env python3
 """A test of the selftest: changes each number of the reference by one, up and down, and sees the selftest fail.
 
-  slips.py    names every change that goes unseen, then counts; status 1 where there is one (a minute)
+  slips.py    names every change that goes unseen, then counts; status 1 where there is one (a minute or two)
 """
 import ast
 import os
