@@ -1,12 +1,13 @@
 #!/usr/bin/env python3
 """Writes cases for the program `cases` (docs/CASES.md), and the lines that the reference gives for them.
 
-  make_cases.py [--group base|door|samples|released|months|all] [--seed N] [--out DIR]
+  make_cases.py [--group base|door|samples|released|months|uncertainty|all|every-sum] [--seed N] [--out DIR]
   make_cases.py --store
   make_cases.py --check
 
 DIR gets cases.bin and cases.txt, and a pair stop-*.bin, stop-*.txt for each way in which input cannot be read.
-Every run with the same seed writes the same bytes; the stored cases are those of seed 1.
+Every run with the same seed writes the same bytes; the stored cases are those of all groups with seed 1. The group
+every-sum is not among them: it has a case for each sum of squares that uncertainties come to.
 --store writes the stored files anew that the reference decides, and says what changed: the stored cases, their
 lines, and what the listing prints for its sample. --check only compares; its status is 1 where one differs.
 """
@@ -24,10 +25,13 @@ from months_cases import months
 from reference import listing, little
 from released_cases import released
 from samples_cases import samples
+from uncertainty_cases import every_sum, uncertainty
 
 ROOT = os.path.join(os.path.dirname(os.path.abspath(__file__)), "..")
 GROUPS = {"base": [base], "door": [door], "samples": [samples], "released": [released], "months": [months]}
+GROUPS["uncertainty"] = [uncertainty]
 GROUPS["all"] = [cases_of for group in GROUPS.values() for cases_of in group]
+GROUPS["every-sum"] = [every_sum]
 FIRST = case("d", b"\1\1\0")
 STOPS = {
     "header": FIRST + FIRST[:4],
@@ -39,6 +43,10 @@ STOPS = {
     "run": FIRST + case("r", bytes(cases.IMAGE + 3)) + FIRST,
     "step-136": FIRST + case("s", bytes(136 + 2)) + FIRST,
     "run-136": FIRST + case("r", bytes(136 + 4)) + FIRST,
+    "factor-5": FIRST + case("u", bytes(5)) + FIRST,
+    "factor-7": FIRST + case("u", bytes(7)) + FIRST,
+    "codes-5": FIRST + case("k", b"\0\0\1\1\1") + FIRST,
+    "codes-7": FIRST + case("k", b"\0\0\1\1\1\1\1") + FIRST,
     "payload": FIRST + FIRST[:-1],
 }
 

@@ -1,5 +1,6 @@
 #!/bin/sh
-# Runs the program `cases` on the small stop-* pairs and on fresh cases, and compares what it prints with the reference.
+# Runs the program `cases` on the small stop-* pairs, on fresh cases and on a file with every sum of squares that
+# uncertainties come to, and compares what it prints with the reference.
 #
 #   tests/run_cases.sh [SEED...]        seeds 2 and 3 where none is named
 #
@@ -21,6 +22,7 @@ trap 'rm -rf "$room"' EXIT
 for seed; do
     python3 tests/make_cases.py --seed "$seed" --out "$room/$seed"
 done
+python3 tests/make_cases.py --group every-sum --out "$room/every-sum"
 files=0 differences=0
 for input in "$room/$1"/stop-*.bin "$room"/*/cases.bin; do
     files=$((files + 1))
