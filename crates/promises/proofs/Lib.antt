@@ -11,5 +11,6 @@ pub mod Site
 pub mod Worked
 pub mod Sorting
 pub mod Months
+pub mod Uncertainties
 pub mod Proved
 pub mod OneAnswer

@@ -15,6 +15,7 @@ pub mod Image
 pub mod Door
 pub mod Chart
 pub mod Samples
+pub mod Uncertainty
 pub mod Line
 pub mod Lines
 pub mod Calls

@@ -4,4 +4,5 @@ pub mod WholeRun
 pub mod Site
 pub mod Worked
 pub mod Sorting
+pub mod Uncertainties
 pub mod Promises

@@ -9,7 +9,7 @@ use native.Mathlib.Omega.{arith}
 use lib.ListN.{length, getD}
 use Rattle.numbers.specs.Eight.{eight, sumOf, allOf}
 use Rattle.numbers.specs.Fault.{firstOf, ahead}
-use Rattle.numbers.specs.Fraction.{Fraction, over, whole, _⊕_, _≼_, _≺_, _≈_}
+use Rattle.numbers.specs.Fraction.{Fraction, over, whole, _⊕_, _⊗_, _≼_, _≺_, _≈_}
 use Rattle.numbers.specs.Lists.{added, Each}
 use Rattle.decay.specs.Series.{E, StandsFor, exponent}
 use Rattle.waste.specs.Waste.{massLimit, rateOf}
@@ -25,6 +25,7 @@ use Rattle.ledger.specs.declared.book.Ledger.{Ledger}
 use Rattle.ledger.specs.declared.answer.Answer.{Answer}
 use Rattle.ledger.specs.declared.answer.Outcome.{Outcome}
 use Rattle.samples.specs.Samples.{fractionAt, numberOf, sortedOf}
+use Rattle.uncertainty.specs.Uncertainty.{byPercentages, byCodes}
 use Rattle.image.specs.Image.{imageBytes}
 use Rattle.line.specs.Line.{acceptedText}
 use Rattle.lines.specs.Listing.{answerText, runText, listingOf}
@@ -34,6 +35,7 @@ use Rattle.promises.specs.Exact.{inert, recordAt, exactStockAt, exactFig
 use Rattle.promises.specs.WholeRun.{runOver, WholeRun}
 use Rattle.promises.specs.Site.{Call, KeptSite}
 use Rattle.promises.specs.Sorting.{meanShare, Sortable}
+use Rattle.promises.specs.Uncertainties.{V², v, φ, EquationFour, Entered, Coded, Takes, Determined}
 use Rattle.promises.specs.Worked.{rows, holds}
 
 -- At place t, what was released, which is the releases answered, and what is left make up what was brought in, which is the deposits.
@@ -174,3 +176,25 @@ pub record Promises : Type 0 where
   -- The masses of any call are such that a record that holds them is not refused with 9.
   pub sorted-light : (kind W : ℕ) (samples : List ℕ) (l : Ledger) (bytes : List ℕ) (room : ℕ)
       → ((t : ℕ) → t < 8 → massOf bytes t ≡ getD (sortedOf kind W samples .masses) t 0) → takeOf l bytes room .refusal ≡ 9 → ⊥
+  -- Document 02, request d: φ = 1 / (1 + v).
+  pub phi-is : (n m : ℕ) (above : 0 < m) → φ n m above ⊗ (whole 1 ⊕ v n m above) ≈ whole 1
+  -- Six percentages are accepted exactly where each is 0 to 100. The factor is then 'equation (4) rounded down', which no other number
+  -- is: 28 to 100.
+  pub factor-where : (a b c d e g : ℕ) → (byPercentages a b c d e g .refusal ≡ 0) ↔ Entered a b c d e g
+  pub factor-well : (a b c d e g : ℕ) → byPercentages a b c d e g .refusal ≡ 0 → Determined a b c d e g 28 (byPercentages a b c d e g .factor) 100
+  pub factor-one : (a b c d e g p : ℕ) → byPercentages a b c d e g .refusal ≡ 0 → EquationFour (V² a b c d e g) p → p ≡ byPercentages a b c d e g .factor
+  -- 'Also offer a form in which c, d, e and g are chosen [..]: code 1 takes the lower value, 2 the higher, from c 5 or 15, d 0 or 5, e 0 or
+  -- 50, g 5 or 20': the same at the chosen values, 39 to 93.
+  pub codes-where : (a b c d e g : ℕ) → (byCodes a b c d e g .refusal ≡ 0) ↔ Coded a b c d e g
+  pub codes-well : (a b c d e g c′ d′ e′ g′ : ℕ) → byCodes a b c d e g .refusal ≡ 0 → Takes c 5 15 c′ → Takes d 0 5 d′ → Takes e 0 50 e′ → Takes g 5 20 g′
+      → (byCodes a b c d e g ≡ byPercentages a b c′ d′ e′ g′) × Determined a b c′ d′ e′ g′ 39 (byCodes a b c d e g .factor) 93
+  -- A refusal comes 'with factor 0'.
+  pub factor-none : (a b c d e g : ℕ) → (byPercentages a b c d e g .refusal ≡ 0 → ⊥) → byPercentages a b c d e g .factor ≡ 0
+  pub codes-none : (a b c d e g : ℕ) → (byCodes a b c d e g .refusal ≡ 0 → ⊥) → byCodes a b c d e g .factor ≡ 0
+  -- More uncertainty never gives a higher factor.
+  pub factor-falls : (a b c d e g a′ b′ c′ d′ e′ g′ : ℕ) → a ≤ a′ → b ≤ b′ → c ≤ c′ → d ≤ d′ → e ≤ e′ → g ≤ g′
+      → byPercentages a′ b′ c′ d′ e′ g′ .factor ≤ byPercentages a b c d e g .factor
+  pub codes-fall : (a b c d e g a′ b′ c′ d′ e′ g′ : ℕ) → byCodes a b c d e g .refusal ≡ 0 → a ≤ a′ → b ≤ b′ → c ≤ c′ → d ≤ d′ → e ≤ e′ → g ≤ g′
+      → byCodes a′ b′ c′ d′ e′ g′ .factor ≤ byCodes a b c d e g .factor
+  -- 'For 10, 10, 5, 0, 0, 5 it is 86.'
+  pub factor-86 : byPercentages 10 10 5 0 0 5 ≡ record { refusal = 0; factor = 86 }

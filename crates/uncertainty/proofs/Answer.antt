@@ -55,11 +55,11 @@ module _ (a b c d e g : ℕ) where
       let none = none-there (codeFaults a b c d e g) (atChosen a b c d e g) z in
       (not-false _ (clear 18 (codeFaults a b c d e g) refl none), not-false _ (clear 19 (codeFaults a b c d e g) refl none))
 
--- Chosen values are percentages, so that a choice is refused for its codes alone.
-pub chosen-most : (code lower higher most : ℕ) → lower ≤ most → higher ≤ most → chosen code lower higher ≤ most
-chosen-most code lower higher most low high = by-test (eqb code 1)
+-- What holds of both values holds of the one that is chosen. So chosen values are percentages, and a choice is refused for its codes alone.
+pub chosen-either : (P : ℕ → Type 0) (code : ℕ) {lower higher : ℕ} → P lower → P higher → P (chosen code lower higher)
+chosen-either P code {lower} {higher} low high = by-test (eqb code 1)
   where
-    by-test : (b : Bool) → cond b lower higher ≤ most
+    by-test : (b : Bool) → P (cond b lower higher)
     by-test true = low
     by-test false = high
 
@@ -71,8 +71,11 @@ all-entered a b c d e g t hc hd he hg = simp (t, le-leb c 100 hc, le-leb d 100 h
 module _ (a b c d e g : ℕ) (entered : (isPercentage a && isPercentage b) ≡ true) where
   pub chosen-entered : arePercentages a b (chosen c 5 15) (chosen d 0 5) (chosen e 0 50) (chosen g 5 20) ≡ true
   chosen-entered =
-      all-entered a b (chosen c 5 15) (chosen d 0 5) (chosen e 0 50) (chosen g 5 20) entered (chosen-most c 5 15 100 (lit≤ tt) (lit≤ tt))
-      (chosen-most d 0 5 100 (lit≤ tt) (lit≤ tt)) (chosen-most e 0 50 100 (lit≤ tt) (lit≤ tt)) (chosen-most g 5 20 100 (lit≤ tt) (lit≤ tt))
+      all-entered a b (chosen c 5 15) (chosen d 0 5) (chosen e 0 50) (chosen g 5 20) entered (small c (lit≤ tt) (lit≤ tt)) (small d (lit≤ tt) (lit≤ tt))
+      (small e (lit≤ tt) (lit≤ tt)) (small g (lit≤ tt) (lit≤ tt))
+    where
+      small : (code : ℕ) {lower higher : ℕ} → lower ≤ 100 → higher ≤ 100 → chosen code lower higher ≤ 100
+      small code = chosen-either (λ x. x ≤ 100) code
 
 -- With a refusal the factor is 0.
 module _ (a b c d e g : ℕ) where

@@ -68,11 +68,26 @@ module _ (S : ℕ) where
   unfolding factorFor
   no-more-allowed p h e = none-greater (allows S) 100 p h e
 
+  -- The rule for a number that is allowed, for the factor and for the next.
+  pub rule : (p : ℕ) → allows S p ≡ true → p * p * S ≤ (10000 - 100 * p) * (10000 - 100 * p)
+  unfolding allows
+  rule p e = leb-true _ _ e
+
+  pub factor-fits : let p = factorFor S in p * p * S ≤ (10000 - 100 * p) * (10000 - 100 * p)
+  factor-fits = rule (factorFor S) factor-allowed
+
+  pub next-fails : let t = factorFor S + 1 in t ≤ 100 → (10000 - 100 * t) * (10000 - 100 * t) < t * t * S
+  unfolding allows
+  next-fails h = by-test (allows S (factorFor S + 1)) refl
+    where
+      by-test : (b : Bool) → allows S (factorFor S + 1) ≡ b → let t = factorFor S + 1 in (10000 - 100 * t) * (10000 - 100 * t) < t * t * S
+      by-test true e = absurd (omega (arith, no-more-allowed (factorFor S + 1) h e))
+      by-test false e = leb-false _ _ e
+
 -- What a larger sum allows, a smaller one does: so the factor falls as the sum rises.
 fewer-allowed : (S S′ p : ℕ) → S ≤ S′ → allows S′ p ≡ true → allows S p ≡ true
 unfolding allows
-fewer-allowed S S′ p h e =
-    le-leb _ _ (le-trans (mul-le-mul-left (p * p) h) (leb-true (p * p * S′) ((10000 - 100 * p) * (10000 - 100 * p)) e))
+fewer-allowed S S′ p h e = le-leb _ _ (le-trans (mul-le-mul-left (p * p) h) (rule S′ p e))
 
 pub factor-falls : (S S′ : ℕ) → S ≤ S′ → factorFor S′ ≤ factorFor S
 factor-falls S S′ h = no-more-allowed S (factorFor S′) (factor-most S′) (fewer-allowed S S′ (factorFor S′) h (factor-allowed S′))
