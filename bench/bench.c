@@ -1,8 +1,10 @@
-/* Runs one peer, or another entry of the library, over the first records of a monthly file of 1200, or shares a total by the
- * first of 400 samples, or compares what all peers write and fails where one refuses a record or a total, where library and
- * reference differ, or where two share a total unlike.
- * Usage: bench PEER COUNT, bench ENTRY COUNT or bench SHARER COUNT, with COUNT in four digits; bench compare */
+/* Runs one peer, or another entry of the library, over the first records of a monthly file of 1200; or shares a total by
+ * the first of 400 samples; or works a correction factor out; or compares what all peers write, and fails where one
+ * refuses a record or a total, library and reference differ, two share a total unlike, or a factor is not as expected.
+ * Usage: bench PEER COUNT, bench ENTRY COUNT, bench SHARER COUNT or bench WORKER FACTOR, with the number in four digits;
+ * bench compare */
 #include "doubles.h"
+#include "factors.h"
 #include "inputs.h"
 #include "landfill.h"
 #include "reference.h"
@@ -15,6 +17,7 @@
 
 enum { RECORDS = 1200, BYTES = 48, PEERS = 5, ENTRIES = 2, EQUATION = 4, MOST_BY_EQUATION = 120 };
 enum { SAMPLES = 400, TOTAL = 987654321, SHARERS = 3 };
+enum { WORKED = 2, WORKERS = 3 };
 
 static uint8_t file[RECORDS * BYTES], out[PEERS][RECORDS * BYTES], text[90 * (RECORDS + 1)];
 static uint8_t samples[SAMPLES * LANDFILL_SAMPLE_BYTES];
@@ -103,6 +106,16 @@ static const struct {
     sharing *share;
 } sharers[SHARERS] = {{"masses", landfill_masses}, {"sorted", sorted_masses}, {"reference-masses", reference_masses}};
 
+static const struct {
+    const char *name;
+    factors_work *work;
+} workers[WORKERS] = {{"factor", landfill_factor}, {"root", factors_by_root}, {"count", factors_by_count}};
+
+/* Uncertainties and their factor: 100 / (1 + v) is 86.3 and 28.99, so that doubles have to give it too. */
+static const struct {
+    uint8_t of[6], factor;
+} worked[WORKED] = {{{10, 10, 5, 0, 0, 5}, 86}, {{100, 100, 100, 100, 100, 100}, 28}};
+
 /* Tells whether a peer, or an entry, accepts all of the first records. */
 static int runs(int peer, size_t count)
 {
@@ -129,6 +142,22 @@ static int all_share_alike(size_t count)
     uint32_t masses[SHARERS][LANDFILL_TYPES];
     for (int sharer = 0; sharer < SHARERS; sharer++)
         if (!shares(sharer, count, masses[sharer]) || memcmp(masses[0], masses[sharer], sizeof masses[0]) != 0) return 0;
+    return 1;
+}
+
+/* Tells whether a factor of those above is worked out; for factor 0 there is no call. */
+static int works(int worker, size_t factor)
+{
+    const uint8_t *of = worked[factor == worked[1].factor].of;
+    uint8_t found;
+    return factor == 0 || (workers[worker].work(of[0], of[1], of[2], of[3], of[4], of[5], &found) == 0 && found == factor);
+}
+
+static int all_work_alike(void)
+{
+    for (int worker = 0; worker < WORKERS; worker++)
+        for (int i = 0; i < WORKED; i++)
+            if (!works(worker, worked[i].factor)) return 0;
     return 1;
 }
 
@@ -164,12 +193,15 @@ int main(int words, char **word)
             if (!runs(peer, count)) return 1;
             compare(peer, count);
         }
-        return memcmp(out[0], out[1], sizeof out[0]) == 0 && all_share_alike(3) && all_share_alike(SAMPLES) ? 0 : 1;
+        int alike = all_share_alike(3) && all_share_alike(SAMPLES) && all_work_alike();
+        return alike && memcmp(out[0], out[1], sizeof out[0]) == 0 ? 0 : 1;
     }
     for (int entry = 0; words == 3 && entry < ENTRIES; entry++)
         if (strcmp(word[1], entries[entry].name) == 0) return enters(entry, strtoul(word[2], NULL, 10)) ? 0 : 1;
     for (int sharer = 0; words == 3 && sharer < SHARERS; sharer++)
         if (strcmp(word[1], sharers[sharer].name) == 0) return shares(sharer, strtoul(word[2], NULL, 10), masses) ? 0 : 1;
+    for (int worker = 0; words == 3 && worker < WORKERS; worker++)
+        if (strcmp(word[1], workers[worker].name) == 0) return works(worker, strtoul(word[2], NULL, 10)) ? 0 : 1;
     for (int peer = 0; words == 3 && peer < PEERS; peer++)
         if (strcmp(word[1], peers[peer].name) == 0) return runs(peer, strtoul(word[2], NULL, 10)) ? 0 : 1;
     return 2;

@@ -1,7 +1,7 @@
 #!/usr/bin/env bash
-# Measures landfill_run beside four peers in C, and landfill_masses beside one, and prints the tables of docs/PERFORMANCE.md:
-# instructions for each record, ratios, instructions for one call by samples, how far the figures are apart, and the
-# library's size.
+# Measures landfill_run beside four peers in C, landfill_masses beside one and landfill_factor beside two, and prints the
+# tables of docs/PERFORMANCE.md: instructions for each record, ratios, instructions for one call by samples and by
+# uncertainties, how far the figures are apart, and the library's size.
 # Usage: bash bench/run.sh [--library FILE | --standin]
 set -eu
 cd "$(dirname "$0")/.."
@@ -31,8 +31,8 @@ elif command -v valgrind >/dev/null; then counter=by_valgrind
 else stop "neither perf nor valgrind counts instructions here"
 fi
 
-build bench -Ibench bench/bench.c bench/doubles.c bench/sorted.c tests/c/inputs.c tests/c/reference.c tests/c/entries.c "$library"
-run "$target/bench" compare >"$target/compare" || stop "a record or a total is refused, or two answers differ: see tests/c/run.sh"
+build bench -Ibench bench/*.c tests/c/inputs.c tests/c/reference.c tests/c/entries.c "$library"
+run "$target/bench" compare >"$target/compare" || stop "something is refused, or two answers differ: see tests/c/run.sh"
 
 # Lines of PEER RECORDS INSTRUCTIONS, the program's cost with no records taken off.
 measure() {
@@ -76,7 +76,7 @@ awk -v peers="$peers" '
         table(2, 1)
     }' "$target/counts"
 
-# The program's instructions for so many records or samples, those for none taken off.
+# The program's instructions for so many records or samples, or for a factor, those for none taken off.
 over_none() { echo "$(($($counter "$target/bench" "$1" "$2") - $($counter "$target/bench" "$1" 0000)))"; }
 
 # Other entries of the library on the same 1200 records.
@@ -85,6 +85,14 @@ for entry in take listing; do echo "| \`landfill_$entry\` | $(($(over_none $entr
 
 printf '\nInstructions for one call by samples:\n\n| Samples | library | plain C |\n|---|---|---|\n'
 for count in 0003 0400; do echo "| $((10#$count)) | $(over_none masses $count) | $(over_none sorted $count) |"; done
+
+by_uncertainties() {
+    echo "| $1 | $((10#$2)) | $(over_none factor "$2") | $(over_none root "$2") | $(over_none count "$2") |"
+}
+printf '\nInstructions for one call by uncertainties:\n\n'
+printf '| Uncertainties | Factor | library | doubles | whole numbers |\n|---|---|---|---|---|\n'
+by_uncertainties '10, 10, 5, 0, 0, 5' 0086
+by_uncertainties 'six of 100' 0028
 
 cat <<'END'
 
