@@ -11,12 +11,13 @@ ghost use Rattle.ledger.specs.History.{outOf};
 ghost use Rattle.ledger.specs.Take.{totalsOf};
 ghost use Rattle.image.specs.Image.{imageBytes, ledgerOf};
 ghost use Rattle.samples.specs.Samples.{sortedOf};
-ghost use Rattle.uncertainty.specs.Uncertainty.{byPercentages, byCodes};
+ghost use Rattle.uncertainty.specs.Uncertainty.{entering, byPercentages, byCodes};
 ghost use Rattle.lines.specs.Listing.{listedOf, textOf};
 ghost use Rattle.calls.specs.Calls.{takeHere, takeImage, takeOut, takeAnswer, runHere, runImage};
 ghost use Rattle.abi.specs.Entries.{freshLeft, cellOf};
 use door::Cell;
 use ledger::Ledger;
+use uncertainty::Uncertainties;
 
 // Answers the table entry of a rate in thousandths, kind 1 by year and 2 by month, and 0 for any other rate or kind.
 #[no_mangle]
@@ -122,10 +123,10 @@ pub extern "C" fn landfill_masses(kind: u8, total: u64, samples: &[u8], masses: 
 // Answers 0 and the correction factor in percent for six uncertainties in percent, or 18 and factor 0.
 #[no_mangle]
 pub extern "C" fn landfill_factor(a: u8, b: u8, c: u8, d: u8, e: u8, g: u8, factor: &mut u8) -> u8
-    ensures { λ r. ⌜ r ≡ byPercentages a b c d e g .refusal ⌝ }
-    ensures { λ _. ⌜ now (factor .exit) ≡ byPercentages a b c d e g .factor ⌝ }
+    ensures { λ r. ⌜ r ≡ byPercentages (entering a b c d e g) .refusal ⌝ }
+    ensures { λ _. ⌜ now (factor .exit) ≡ byPercentages (entering a b c d e g) .factor ⌝ }
 {
-    let answer = uncertainty::by_percentages(a, b, c, d, e, g);
+    let answer = Uncertainties { a, b, c, d, e, g }.by_percentages();
     *factor = answer.factor;
     answer.refusal
 }
@@ -142,10 +143,10 @@ pub extern "C" fn landfill_factor_by_codes(
     g: u8,
     factor: &mut u8,
 ) -> u8
-    ensures { λ r. ⌜ r ≡ byCodes a b c d e g .refusal ⌝ }
-    ensures { λ _. ⌜ now (factor .exit) ≡ byCodes a b c d e g .factor ⌝ }
+    ensures { λ r. ⌜ r ≡ byCodes (entering a b c d e g) .refusal ⌝ }
+    ensures { λ _. ⌜ now (factor .exit) ≡ byCodes (entering a b c d e g) .factor ⌝ }
 {
-    let answer = uncertainty::by_codes(a, b, c, d, e, g);
+    let answer = Uncertainties { a, b, c, d, e, g }.by_codes();
     *factor = answer.factor;
     answer.refusal
 }

@@ -3,4 +3,5 @@ pub mod Eight
 pub mod Fault
 pub mod Fraction
 pub mod Lists
+pub mod Root
 pub mod Split

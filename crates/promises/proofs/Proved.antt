@@ -36,7 +36,7 @@ use Rattle.promises.proofs.OneRun.{one-run}
 use Rattle.promises.proofs.Site.{kept-site}
 use Rattle.promises.proofs.Worked.{worked}
 use Rattle.promises.proofs.Sorting.{sorted-where, sorted-well, sorted-light}
-use Rattle.promises.proofs.Uncertainties.{phi-is, factor-where, factor-well, factor-one, codes-where, codes-well, factor-falls, codes-fall, factor-86}
+use Rattle.promises.proofs.Uncertainties.{phi-is, factor-where, factor-well, factor-one, codes-where, codes-chosen, codes-well, factor-falls, codes-fall, factor-86}
 use Rattle.promises.proofs.Months.{months-share, only-17, always-17, year-kept}
 
 -- Every rate of a type that decays is in the table, by one test over the types and climates.
@@ -144,6 +144,7 @@ promises =
       factor-well = factor-well;
       factor-one = factor-one;
       codes-where = codes-where;
+      codes-chosen = codes-chosen;
       codes-well = codes-well;
       factor-none = none-entered;
       codes-none = none-coded;

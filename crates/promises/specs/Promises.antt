@@ -25,7 +25,8 @@ use Rattle.ledger.specs.declared.book.Ledger.{Ledger}
 use Rattle.ledger.specs.declared.answer.Answer.{Answer}
 use Rattle.ledger.specs.declared.answer.Outcome.{Outcome}
 use Rattle.samples.specs.Samples.{fractionAt, numberOf, sortedOf}
-use Rattle.uncertainty.specs.Uncertainty.{byPercentages, byCodes}
+use Rattle.uncertainty.specs.Uncertainty.{entering, AtMost, byPercentages, byCodes}
+use Rattle.uncertainty.specs.declared.Uncertainties.{Uncertainties}
 use Rattle.image.specs.Image.{imageBytes}
 use Rattle.line.specs.Line.{acceptedText}
 use Rattle.lines.specs.Listing.{answerText, runText, listingOf}
@@ -35,7 +36,7 @@ use Rattle.promises.specs.Exact.{inert, recordAt, exactStockAt, exactFig
 use Rattle.promises.specs.WholeRun.{runOver, WholeRun}
 use Rattle.promises.specs.Site.{Call, KeptSite}
 use Rattle.promises.specs.Sorting.{meanShare, Sortable}
-use Rattle.promises.specs.Uncertainties.{V², v, φ, EquationFour, Entered, Coded, Takes, Determined}
+use Rattle.promises.specs.Uncertainties.{V², v, φ, EquationFour, Entered, ByTable, Coded, Determined}
 use Rattle.promises.specs.Worked.{rows, holds}
 
 -- At place t, what was released, which is the releases answered, and what is left make up what was brought in, which is the deposits.
@@ -180,21 +181,18 @@ pub record Promises : Type 0 where
   pub phi-is : (n m : ℕ) (above : 0 < m) → φ n m above ⊗ (whole 1 ⊕ v n m above) ≈ whole 1
   -- Six percentages are accepted exactly where each is 0 to 100. The factor is then 'equation (4) rounded down', which no other number
   -- is: 28 to 100.
-  pub factor-where : (a b c d e g : ℕ) → (byPercentages a b c d e g .refusal ≡ 0) ↔ Entered a b c d e g
-  pub factor-well : (a b c d e g : ℕ) → byPercentages a b c d e g .refusal ≡ 0 → Determined a b c d e g 28 (byPercentages a b c d e g .factor) 100
-  pub factor-one : (a b c d e g p : ℕ) → byPercentages a b c d e g .refusal ≡ 0 → EquationFour (V² a b c d e g) p → p ≡ byPercentages a b c d e g .factor
-  -- 'Also offer a form in which c, d, e and g are chosen [..]: code 1 takes the lower value, 2 the higher, from c 5 or 15, d 0 or 5, e 0 or
-  -- 50, g 5 or 20': the same at the chosen values, 39 to 93.
-  pub codes-where : (a b c d e g : ℕ) → (byCodes a b c d e g .refusal ≡ 0) ↔ Coded a b c d e g
-  pub codes-well : (a b c d e g c′ d′ e′ g′ : ℕ) → byCodes a b c d e g .refusal ≡ 0 → Takes c 5 15 c′ → Takes d 0 5 d′ → Takes e 0 50 e′ → Takes g 5 20 g′
-      → (byCodes a b c d e g ≡ byPercentages a b c′ d′ e′ g′) × Determined a b c′ d′ e′ g′ 39 (byCodes a b c d e g .factor) 93
+  pub factor-where : (u : Uncertainties) → (byPercentages u .refusal ≡ 0) ↔ Entered u
+  pub factor-well : (u : Uncertainties) → byPercentages u .refusal ≡ 0 → Determined u 28 (byPercentages u .factor) 100
+  pub factor-one : (u : Uncertainties) (p : ℕ) → byPercentages u .refusal ≡ 0 → EquationFour (V² u) p → p ≡ byPercentages u .factor
+  -- 'Also offer a form in which c, d, e and g are chosen': the answer is that of the chosen values, 39 to 93.
+  pub codes-where : (u : Uncertainties) → (byCodes u .refusal ≡ 0) ↔ Coded u
+  pub codes-chosen : (u values : Uncertainties) → byCodes u .refusal ≡ 0 → ByTable u values → byCodes u ≡ byPercentages values
+  pub codes-well : (u values : Uncertainties) → byCodes u .refusal ≡ 0 → ByTable u values → Determined values 39 (byCodes u .factor) 93
   -- A refusal comes 'with factor 0'.
-  pub factor-none : (a b c d e g : ℕ) → (byPercentages a b c d e g .refusal ≡ 0 → ⊥) → byPercentages a b c d e g .factor ≡ 0
-  pub codes-none : (a b c d e g : ℕ) → (byCodes a b c d e g .refusal ≡ 0 → ⊥) → byCodes a b c d e g .factor ≡ 0
+  pub factor-none : (u : Uncertainties) → (byPercentages u .refusal ≡ 0 → ⊥) → byPercentages u .factor ≡ 0
+  pub codes-none : (u : Uncertainties) → (byCodes u .refusal ≡ 0 → ⊥) → byCodes u .factor ≡ 0
   -- More uncertainty never gives a higher factor.
-  pub factor-falls : (a b c d e g a′ b′ c′ d′ e′ g′ : ℕ) → a ≤ a′ → b ≤ b′ → c ≤ c′ → d ≤ d′ → e ≤ e′ → g ≤ g′
-      → byPercentages a′ b′ c′ d′ e′ g′ .factor ≤ byPercentages a b c d e g .factor
-  pub codes-fall : (a b c d e g a′ b′ c′ d′ e′ g′ : ℕ) → byCodes a b c d e g .refusal ≡ 0 → a ≤ a′ → b ≤ b′ → c ≤ c′ → d ≤ d′ → e ≤ e′ → g ≤ g′
-      → byCodes a′ b′ c′ d′ e′ g′ .factor ≤ byCodes a b c d e g .factor
+  pub factor-falls : (u u′ : Uncertainties) → AtMost u u′ → byPercentages u′ .factor ≤ byPercentages u .factor
+  pub codes-fall : (u u′ : Uncertainties) → byCodes u .refusal ≡ 0 → AtMost u u′ → byCodes u′ .factor ≤ byCodes u .factor
   -- 'For 10, 10, 5, 0, 0, 5 it is 86.'
-  pub factor-86 : byPercentages 10 10 5 0 0 5 ≡ record { refusal = 0; factor = 86 }
+  pub factor-86 : byPercentages (entering 10 10 5 0 0 5) ≡ record { refusal = 0; factor = 86 }

@@ -9,14 +9,16 @@ use native.Mathlib.Omega.{arith}
 use lib.Dec.{lit<}
 use Rattle.numbers.specs.Fraction.{Fraction, over, whole, _⊕_, _⊗_, _≼_, _≺_, _≈_, floor}
 use Rattle.record.specs.Ranges.{isFactor}
+use Rattle.uncertainty.specs.Uncertainty.{entering, AtMost}
+use Rattle.uncertainty.specs.declared.Uncertainties.{Uncertainties}
 
 -- A percentage as a fraction, squared.
-abbrev pub squared : ℕ → Fraction
-squared x = over x 100 (lit< tt) ⊗ over x 100 (lit< tt)
+abbrev pub squared : (percentage : ℕ) → Fraction
+squared percentage = over percentage 100 (lit< tt) ⊗ over percentage 100 (lit< tt)
 
 -- Equation (3): V = √(a² + b² + c² + d² + e² + g²); this is V².
-unfoldable pub V² : (a b c d e g : ℕ) → Fraction
-V² a b c d e g = squared a ⊕ squared b ⊕ squared c ⊕ squared d ⊕ squared e ⊕ squared g
+unfoldable pub V² : Uncertainties → Fraction
+V² u = squared (u .a) ⊕ squared (u .b) ⊕ squared (u .c) ⊕ squared (u .d) ⊕ squared (u .e) ⊕ squared (u .g)
 
 module _ (n m : ℕ) (above : 0 < m) where
   -- v, and v²
@@ -40,31 +42,35 @@ pub record EquationFour (square : Fraction) (p : ℕ) : Type 0 where
   pub above-root : (n m : ℕ) (above : 0 < m) → square ≼ v² n m above → whole 100 ⊗ φ n m above ≺ whole (p + 1)
 
 -- 'six whole percentages a, b, c, d, e, g, each 0 to 100'
-pub record Entered (a b c d e g : ℕ) : Type 0 where
-  pub a-most : a ≤ 100
-  pub b-most : b ≤ 100
-  pub c-most : c ≤ 100
-  pub d-most : d ≤ 100
-  pub e-most : e ≤ 100
-  pub g-most : g ≤ 100
-
--- 'a and b are entered as percentages', and c, d, e and g by 'code 1 [..], 2'
-pub record Coded (a b c d e g : ℕ) : Type 0 where
-  pub a-most : a ≤ 100
-  pub b-most : b ≤ 100
-  pub c-code : (c ≡ 1) ⊎ (c ≡ 2)
-  pub d-code : (d ≡ 1) ⊎ (d ≡ 2)
-  pub e-code : (e ≡ 1) ⊎ (e ≡ 2)
-  pub g-code : (g ≡ 1) ⊎ (g ≡ 2)
+abbrev pub Entered : Uncertainties → Type 0
+Entered u = AtMost u (entering 100 100 100 100 100 100)
 
 -- 'code 1 takes the lower value, 2 the higher'
 pub data Takes (code lower higher value : ℕ) : Type 0 where
   takes-lower : code ≡ 1 → value ≡ lower → Takes code lower higher value
   takes-higher : code ≡ 2 → value ≡ higher → Takes code lower higher value
 
--- A factor p for six percentages: equation (4) rounded down, from a least to a most one, and allowed in a record, so that 0 is none.
-pub record Determined (a b c d e g : ℕ) (least p most : ℕ) : Type 0 where
-  pub equation-four : EquationFour (V² a b c d e g) p
+-- 'from c 5 or 15, d 0 or 5, e 0 or 50, g 5 or 20; a and b are entered as percentages'
+pub record ByTable (u values : Uncertainties) : Type 0 where
+  pub a-entered : values .a ≡ u .a
+  pub b-entered : values .b ≡ u .b
+  pub c-chosen : Takes (u .c) 5 15 (values .c)
+  pub d-chosen : Takes (u .d) 0 5 (values .d)
+  pub e-chosen : Takes (u .e) 0 50 (values .e)
+  pub g-chosen : Takes (u .g) 5 20 (values .g)
+
+-- What is entered where four are codes.
+pub record Coded (u : Uncertainties) : Type 0 where
+  pub a-most : u .a ≤ 100
+  pub b-most : u .b ≤ 100
+  pub c-code : (u .c ≡ 1) ⊎ (u .c ≡ 2)
+  pub d-code : (u .d ≡ 1) ⊎ (u .d ≡ 2)
+  pub e-code : (u .e ≡ 1) ⊎ (u .e ≡ 2)
+  pub g-code : (u .g ≡ 1) ⊎ (u .g ≡ 2)
+
+-- The factor p of six percentages: equation (4) rounded down, from a least to a most one, and allowed in a record, so that 0 is none.
+pub record Determined (u : Uncertainties) (least p most : ℕ) : Type 0 where
+  pub equation-four : EquationFour (V² u) p
   pub at-least : least ≤ p
   pub at-most : p ≤ most
   pub recordable : isFactor p ≡ true

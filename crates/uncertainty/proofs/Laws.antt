@@ -1,18 +1,18 @@
--- The greatest number that passes a test, and what that makes of the factor: it is allowed, the next one is not, and it falls with S.
+-- The greatest number that passes a test, and what that makes of the factor: it is allowed, the next one is not, and it falls as S rises.
 use mathlib.Core.Path.{_≡_, refl, sym, _∙_}
 use mathlib.Core.Bool.{Bool, true, false, cond, _&&_, true≢false}
 use mathlib.Core.Logic.{⊎-elim}
 use Prim.Native.Nat.{ℕ, zero, suc, _+_, _-_, _*_, _≤_, _<_, zero-le}
 use native.Mathlib.Nat.{mul-le-mul, mul-le-mul-left, le-trans, eq-or-lt-of-le, le-of-suc-le-suc}
-use native.Mathlib.Numerals.{add-one}
 use native.Mathlib.Omega.{arith}
 use borrow.Author.Tests.{leb-true, leb-false, le-leb}
 use Rattle.numbers.proofs.Eight.{both-true, three-true}
-use Rattle.uncertainty.specs.Uncertainty.{isPercentage, arePercentages, mostSquares, squaresOf, allows, greatest, factorFor}
+use Rattle.uncertainty.specs.Uncertainty.{entering, AtMost, isPercentage, arePercentages, squaresOf, mostSquares, allows, greatest, factorFor}
+use Rattle.uncertainty.specs.declared.Uncertainties.{Uncertainties}
 
 module _ (test : ℕ → Bool) where
   -- What is found passes, is no more than was asked for, and is no less than any other that passes.
-  pub greatest-passes : (k : ℕ) → test 0 ≡ true → test (greatest test k) ≡ true
+  greatest-passes : (k : ℕ) → test 0 ≡ true → test (greatest test k) ≡ true
   greatest-passes zero h = h
   greatest-passes (suc k) h = by-test (test (suc k)) refl (greatest-passes k h)
     where
@@ -20,7 +20,7 @@ module _ (test : ℕ → Bool) where
       by-test true e on = e
       by-test false e on = on
 
-  pub greatest-most : (k : ℕ) → greatest test k ≤ k
+  greatest-most : (k : ℕ) → greatest test k ≤ k
   greatest-most zero = zero-le
   greatest-most (suc k) = by-test (test (suc k)) (greatest-most k)
     where
@@ -28,7 +28,7 @@ module _ (test : ℕ → Bool) where
       by-test true h = omega arith
       by-test false h = omega arith
 
-  pub none-greater : (k j : ℕ) → j ≤ k → test j ≡ true → j ≤ greatest test k
+  none-greater : (k j : ℕ) → j ≤ k → test j ≡ true → j ≤ greatest test k
   none-greater zero j h e = h
   none-greater (suc k) j h e = by-test (test (suc k)) refl (λ less. none-greater k j less e)
     where
@@ -60,16 +60,16 @@ module _ (S : ℕ) where
   unfolding factorFor
   factor-most = greatest-most (allows S) 100
 
-  pub factor-allowed : allows S (factorFor S) ≡ true
+  factor-allowed : allows S (factorFor S) ≡ true
   unfolding factorFor
   factor-allowed = greatest-passes (allows S) 100 none-allowed
 
-  pub no-more-allowed : (p : ℕ) → p ≤ 100 → allows S p ≡ true → p ≤ factorFor S
+  no-more-allowed : (p : ℕ) → p ≤ 100 → allows S p ≡ true → p ≤ factorFor S
   unfolding factorFor
   no-more-allowed p h e = none-greater (allows S) 100 p h e
 
   -- The rule for a number that is allowed, for the factor and for the next.
-  pub rule : (p : ℕ) → allows S p ≡ true → p * p * S ≤ (10000 - 100 * p) * (10000 - 100 * p)
+  rule : (p : ℕ) → allows S p ≡ true → p * p * S ≤ (10000 - 100 * p) * (10000 - 100 * p)
   unfolding allows
   rule p e = leb-true _ _ e
 
@@ -92,25 +92,42 @@ fewer-allowed S S′ p h e = le-leb _ _ (le-trans (mul-le-mul-left (p * p) h) (r
 pub factor-falls : (S S′ : ℕ) → S ≤ S′ → factorFor S′ ≤ factorFor S
 factor-falls S S′ h = no-more-allowed S (factorFor S′) (factor-most S′) (fewer-allowed S S′ (factorFor S′) h (factor-allowed S′))
 
--- More uncertainty, a larger sum.
-pub squares-rise : (a b c d e g a′ b′ c′ d′ e′ g′ : ℕ) → a ≤ a′ → b ≤ b′ → c ≤ c′ → d ≤ d′ → e ≤ e′ → g ≤ g′
-    → squaresOf a b c d e g ≤ squaresOf a′ b′ c′ d′ e′ g′
+-- Where each of six is at most the same of six others, so is their sum of squares.
+pub squares-rise : (u u′ : Uncertainties) → AtMost u u′ → squaresOf u ≤ squaresOf u′
 unfolding squaresOf
-squares-rise a b c d e g a′ b′ c′ d′ e′ g′ ha hb hc hd he hg =
-    omega (arith, mul-le-mul ha ha, mul-le-mul hb hb, mul-le-mul hc hc, mul-le-mul hd hd, mul-le-mul he he, mul-le-mul hg hg)
+squares-rise u u′ h =
+    omega (
+      arith,
+      mul-le-mul (h .most-a) (h .most-a),
+      mul-le-mul (h .most-b) (h .most-b),
+      mul-le-mul (h .most-c) (h .most-c),
+      mul-le-mul (h .most-d) (h .most-d),
+      mul-le-mul (h .most-e) (h .most-e),
+      mul-le-mul (h .most-g) (h .most-g),
+    )
 
 -- Six percentages are at most 100 each, so S has its most where all are 100.
-pub each-at-most : (a b c d e g : ℕ) → arePercentages a b c d e g ≡ true → (a ≤ 100) × (b ≤ 100) × (c ≤ 100) × (d ≤ 100) × (e ≤ 100) × (g ≤ 100)
-unfolding arePercentages
-each-at-most a b c d e g t =
-    let sixth = both-true (isPercentage a && isPercentage b && isPercentage c && isPercentage d && isPercentage e) (isPercentage g) t in
-    let fifth = both-true (isPercentage a && isPercentage b && isPercentage c && isPercentage d) (isPercentage e) (sixth .0) in
-    let fourth = both-true (isPercentage a && isPercentage b && isPercentage c) (isPercentage d) (fifth .0) in
-    let three = three-true (isPercentage a) (isPercentage b) (isPercentage c) (fourth .0) in
-    (leb-true a 100 (three .0), leb-true b 100 (three .1 .0), leb-true c 100 (three .1 .1), leb-true d 100 (fourth .1), leb-true e 100 (fifth .1), leb-true g 100 (sixth .1))
+abbrev pub allFull : Uncertainties
+allFull = entering 100 100 100 100 100 100
 
-pub squares-most : (a b c d e g : ℕ) → arePercentages a b c d e g ≡ true → squaresOf a b c d e g ≤ mostSquares
-unfolding squaresOf
-squares-most a b c d e g t =
-    let each = each-at-most a b c d e g t in
-    squares-rise a b c d e g 100 100 100 100 100 100 (each .0) (each .1) (each .2) (each .3) (each .4) (each .5)
+module _ (u : Uncertainties) where
+  pub each-at-most : arePercentages u ≡ true → AtMost u allFull
+  unfolding arePercentages
+  each-at-most t =
+      let five = isPercentage (u .a) && isPercentage (u .b) && isPercentage (u .c) && isPercentage (u .d) in
+      let sixth = both-true (five && isPercentage (u .e)) (isPercentage (u .g)) t in
+      let fifth = both-true five (isPercentage (u .e)) (sixth .0) in
+      let fourth = both-true (isPercentage (u .a) && isPercentage (u .b) && isPercentage (u .c)) (isPercentage (u .d)) (fifth .0) in
+      let three = three-true (isPercentage (u .a)) (isPercentage (u .b)) (isPercentage (u .c)) (fourth .0) in
+      record {
+        most-a = leb-true (u .a) 100 (three .0);
+        most-b = leb-true (u .b) 100 (three .1 .0);
+        most-c = leb-true (u .c) 100 (three .1 .1);
+        most-d = leb-true (u .d) 100 (fourth .1);
+        most-e = leb-true (u .e) 100 (fifth .1);
+        most-g = leb-true (u .g) 100 (sixth .1);
+      }
+
+  pub squares-most : arePercentages u ≡ true → squaresOf u ≤ mostSquares
+  unfolding squaresOf
+  squares-most t = squares-rise u allFull (each-at-most t)

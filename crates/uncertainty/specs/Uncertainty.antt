@@ -2,21 +2,36 @@
 -- Table 3, which the request calls table 2.
 use mathlib.Core.Bool.{Bool, cond, not, _&&_, _||_}
 use mathlib.Core.List.{List, [], _∷_}
-use Prim.Native.Nat.{ℕ, zero, suc, _+_, _-_, _*_}
+use Prim.Native.Nat.{ℕ, zero, suc, _+_, _-_, _*_, _≤_}
 use lib.Dec.{eqb, leb}
 use Rattle.numbers.specs.Fault.{Fault, _when_, firstOf}
+use Rattle.uncertainty.specs.declared.Uncertainties.{Uncertainties}
 use Rattle.uncertainty.specs.declared.ModelFactor.{ModelFactor}
+
+-- What is entered for a, b, c, d, e, g.
+abbrev pub entering : (a b c d e g : ℕ) → Uncertainties
+entering a b c d e g = record { a = a; b = b; c = c; d = d; e = e; g = g }
+
+-- Each of six is at most the same of six others.
+pub record AtMost (u u′ : Uncertainties) : Type 0 where
+  pub most-a : u .a ≤ u′ .a
+  pub most-b : u .b ≤ u′ .b
+  pub most-c : u .c ≤ u′ .c
+  pub most-d : u .d ≤ u′ .d
+  pub most-e : u .e ≤ u′ .e
+  pub most-g : u .g ≤ u′ .g
 
 -- 'six whole percentages a, b, c, d, e, g, each 0 to 100'
 abbrev pub isPercentage : ℕ → Bool
 isPercentage x = leb x 100
 
-unfoldable pub arePercentages : (a b c d e g : ℕ) → Bool
-arePercentages a b c d e g = isPercentage a && isPercentage b && isPercentage c && isPercentage d && isPercentage e && isPercentage g
+unfoldable pub arePercentages : Uncertainties → Bool
+arePercentages u =
+    isPercentage (u .a) && isPercentage (u .b) && isPercentage (u .c) && isPercentage (u .d) && isPercentage (u .e) && isPercentage (u .g)
 
 -- 'let S be the sum of their squares'
-unfoldable pub squaresOf : (a b c d e g : ℕ) → ℕ
-squaresOf a b c d e g = a * a + b * b + c * c + d * d + e * e + g * g
+unfoldable pub squaresOf : Uncertainties → ℕ
+squaresOf u = u .a * u .a + u .b * u .b + u .c * u .c + u .d * u .d + u .e * u .e + u .g * u .g
 
 -- S is at most six times the square of 100.
 abbrev pub mostSquares : ℕ
@@ -35,28 +50,31 @@ greatest test (suc k) = cond (test (suc k)) (suc k) (greatest test k)
 unfoldable pub factorFor : (S : ℕ) → ℕ
 factorFor S = greatest (allows S) 100
 
--- 'code 1 takes the lower value, 2 the higher'
+-- 'Also offer a form in which c, d, e and g are chosen [..]: code 1 takes the lower value, 2 the higher,
 abbrev pub isCode : ℕ → Bool
 isCode code = eqb code 1 || eqb code 2
 
-unfoldable pub areCodes : (c d e g : ℕ) → Bool
-areCodes c d e g = isCode c && isCode d && isCode e && isCode g
+unfoldable pub areCodes : Uncertainties → Bool
+areCodes u = isCode (u .c) && isCode (u .d) && isCode (u .e) && isCode (u .g)
 
 abbrev pub chosen : (code lower higher : ℕ) → ℕ
 chosen code lower higher = cond (eqb code 1) lower higher
 
--- 'Refusals: 18 an entered percentage over 100, 19 a code other than 1 and 2, in that order'
-module _ (a b c d e g : ℕ) where
-  unfoldable pub percentageFaults : List Fault
-  percentageFaults = 18 when not (arePercentages a b c d e g) ∷ []
+-- from c 5 or 15, d 0 or 5, e 0 or 50, g 5 or 20; a and b are entered as percentages.'
+unfoldable pub chosenBy : Uncertainties → Uncertainties
+chosenBy u = entering (u .a) (u .b) (chosen (u .c) 5 15) (chosen (u .d) 0 5) (chosen (u .e) 0 50) (chosen (u .g) 5 20)
 
-  unfoldable pub codeFaults : List Fault
-  codeFaults =
-      18 when not (isPercentage a && isPercentage b)
-      ∷ 19 when not (areCodes c d e g)
-      ∷ []
+-- 'Refusals: 18 an entered percentage over 100, 19 a code other than 1 and 2, in that order',
+unfoldable pub percentageFaults : Uncertainties → List Fault
+percentageFaults u = 18 when not (arePercentages u) ∷ []
 
--- Refused, 'with factor 0'.
+unfoldable pub codeFaults : Uncertainties → List Fault
+codeFaults u =
+    18 when not (isPercentage (u .a) && isPercentage (u .b))
+    ∷ 19 when not (areCodes u)
+    ∷ []
+
+-- 'with factor 0'.
 abbrev pub noFactor : (refusal : ℕ) → ModelFactor
 noFactor refusal = record { refusal = refusal; factor = 0 }
 
@@ -64,12 +82,8 @@ noFactor refusal = record { refusal = refusal; factor = 0 }
 abbrev pub unless : List Fault → ModelFactor → ModelFactor
 unless faults answer = cond (eqb (firstOf faults) 0) answer (noFactor (firstOf faults))
 
-unfoldable pub byPercentages : (a b c d e g : ℕ) → ModelFactor
-byPercentages a b c d e g = unless (percentageFaults a b c d e g) (record { refusal = 0; factor = factorFor (squaresOf a b c d e g) })
+unfoldable pub byPercentages : Uncertainties → ModelFactor
+byPercentages u = unless (percentageFaults u) (record { refusal = 0; factor = factorFor (squaresOf u) })
 
--- 'a form in which c, d, e and g are chosen [..]: [..] from c 5 or 15, d 0 or 5, e 0 or 50, g 5 or 20; a and b are entered as percentages'
-unfoldable pub atChosen : (a b c d e g : ℕ) → ModelFactor
-atChosen a b c d e g = byPercentages a b (chosen c 5 15) (chosen d 0 5) (chosen e 0 50) (chosen g 5 20)
-
-unfoldable pub byCodes : (a b c d e g : ℕ) → ModelFactor
-byCodes a b c d e g = unless (codeFaults a b c d e g) (atChosen a b c d e g)
+unfoldable pub byCodes : Uncertainties → ModelFactor
+byCodes u = unless (codeFaults u) (byPercentages (chosenBy u))

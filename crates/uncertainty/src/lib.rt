@@ -2,10 +2,21 @@
 // It serves request d of document 02, and is called by the package whose users choose that option.
 ghost use mathlib.Core.Path.{_≡_};
 ghost use Prim.Native.Nat.{_*_, _^_, _≤_, _<_};
-ghost use Rattle.uncertainty.specs.Uncertainty.{isPercentage, arePercentages, isCode, areCodes, chosen, squaresOf, mostSquares, allows, factorFor, noFactor, byPercentages, byCodes};
+ghost use Rattle.uncertainty.specs.Uncertainty.{isPercentage, arePercentages, squaresOf, mostSquares, allows, factorFor, isCode, areCodes, chosen, chosenBy, noFactor, byPercentages, byCodes};
 
 // The most that a percentage can be, an uncertainty's as well as the factor's.
 const FULL: u8 = 100;
+
+// The uncertainties of the masses (a), of DOC (b), DOCf (c), F (d), the methane correction factor (e) and the exponential term (g): in
+// whole percent, or c, d, e and g as codes that choose them.
+pub struct Uncertainties {
+    pub a: u8,
+    pub b: u8,
+    pub c: u8,
+    pub d: u8,
+    pub e: u8,
+    pub g: u8,
+}
 
 // The number of the refusal, 0 if none, and the factor in percent, 0 if refused.
 pub struct ModelFactor {
@@ -27,30 +38,11 @@ fn is_percentage(x: u8) -> bool
     x <= FULL
 }
 
-// Tells whether six numbers are percentages.
-fn are_percentages(a: u8, b: u8, c: u8, d: u8, e: u8, g: u8) -> bool
-    ensures { λ r. ⌜ r ≡ arePercentages a b c d e g ⌝ }
-{
-    is_percentage(a)
-        & is_percentage(b)
-        & is_percentage(c)
-        & is_percentage(d)
-        & is_percentage(e)
-        & is_percentage(g)
-}
-
 // Tells whether a number is the code of a choice.
 fn is_code(code: u8) -> bool
     ensures { λ r. ⌜ r ≡ isCode code ⌝ }
 {
     (code == 1) | (code == 2)
-}
-
-// Tells whether four numbers are codes.
-fn are_codes(c: u8, d: u8, e: u8, g: u8) -> bool
-    ensures { λ r. ⌜ r ≡ areCodes c d e g ⌝ }
-{
-    is_code(c) & is_code(d) & is_code(e) & is_code(g)
 }
 
 // Answers the value that a code chooses.
@@ -67,14 +59,7 @@ fn square(x: u8) -> u32
     x as u32 * x as u32
 }
 
-// Answers the sum of six squares.
-fn add_squares(a: u8, b: u8, c: u8, d: u8, e: u8, g: u8) -> u32
-    ensures { λ r. ⌜ r ≡ squaresOf a b c d e g ⌝ }
-{
-    square(a) + square(b) + square(c) + square(d) + square(e) + square(g)
-}
-
-// Tells whether a factor is within what the sum of squares allows.
+// Tells whether the sum of squares allows a factor.
 fn is_allowed(squares: u32, factor: u32) -> bool
     requires { ⌜ (squares ≤ mostSquares) × (factor ≤ 100) ⌝ }
     ensures { λ r. ⌜ r ≡ allows squares factor ⌝ }
@@ -95,37 +80,76 @@ fn greatest_factor(squares: u32) -> u8
     factor as u8
 }
 
-// Answers the factor for six percentages, or refuses: 18 one of them is over 100.
-pub fn by_percentages(a: u8, b: u8, c: u8, d: u8, e: u8, g: u8) -> ModelFactor
-    ensures { λ r. ⌜ r ≡ byPercentages a b c d e g ⌝ }
-{
-    if !are_percentages(a, b, c, d, e, g) {
-        return refuse(18);
+impl Uncertainties {
+    // Tells whether all six are percentages.
+    fn are_percentages(self) -> bool
+        ensures { λ r. ⌜ r ≡ arePercentages self ⌝ }
+    {
+        is_percentage(self.a)
+            & is_percentage(self.b)
+            & is_percentage(self.c)
+            & is_percentage(self.d)
+            & is_percentage(self.e)
+            & is_percentage(self.g)
     }
-    let squares = add_squares(a, b, c, d, e, g);
-    ModelFactor {
-        refusal: 0,
-        factor: greatest_factor(squares),
-    }
-}
 
-// Answers the factor for percentages a and b and the values that four codes choose, or refuses: 18 a or b is over 100, 19 a code is
-// not 1 or 2.
-pub fn by_codes(a: u8, b: u8, c: u8, d: u8, e: u8, g: u8) -> ModelFactor
-    ensures { λ r. ⌜ r ≡ byCodes a b c d e g ⌝ }
-{
-    if !(is_percentage(a) & is_percentage(b)) {
-        return refuse(18);
+    // Tells whether c, d, e and g are codes.
+    fn are_codes(self) -> bool
+        ensures { λ r. ⌜ r ≡ areCodes self ⌝ }
+    {
+        is_code(self.c) & is_code(self.d) & is_code(self.e) & is_code(self.g)
     }
-    if !are_codes(c, d, e, g) {
-        return refuse(19);
+
+    // Answers the percentages that the codes of c, d, e and g choose.
+    fn chosen_values(self) -> Uncertainties
+        ensures { λ r. ⌜ r ≡ chosenBy self ⌝ }
+    {
+        Uncertainties {
+            a: self.a,
+            b: self.b,
+            c: choose(self.c, 5, 15),
+            d: choose(self.d, 0, 5),
+            e: choose(self.e, 0, 50),
+            g: choose(self.g, 5, 20),
+        }
     }
-    by_percentages(
-        a,
-        b,
-        choose(c, 5, 15),
-        choose(d, 0, 5),
-        choose(e, 0, 50),
-        choose(g, 5, 20),
-    )
+
+    // Answers the sum of the squares.
+    fn squares(self) -> u32
+        ensures { λ r. ⌜ r ≡ squaresOf self ⌝ }
+    {
+        square(self.a)
+            + square(self.b)
+            + square(self.c)
+            + square(self.d)
+            + square(self.e)
+            + square(self.g)
+    }
+
+    // Answers the factor for six percentages, or refuses: 18 one of them is over 100.
+    pub fn by_percentages(self) -> ModelFactor
+        ensures { λ r. ⌜ r ≡ byPercentages self ⌝ }
+    {
+        if !self.are_percentages() {
+            return refuse(18);
+        }
+        ModelFactor {
+            refusal: 0,
+            factor: greatest_factor(self.squares()),
+        }
+    }
+
+    // Answers the factor for percentages a and b and the values that four codes choose, or refuses: 18 a or b is over 100, 19 a code
+    // is not 1 or 2.
+    pub fn by_codes(self) -> ModelFactor
+        ensures { λ r. ⌜ r ≡ byCodes self ⌝ }
+    {
+        if !(is_percentage(self.a) & is_percentage(self.b)) {
+            return refuse(18);
+        }
+        if !self.are_codes() {
+            return refuse(19);
+        }
+        self.chosen_values().by_percentages()
+    }
 }

@@ -1,6 +1,6 @@
 -- The public functions of `uncertainty`.
-use Rattle.uncertainty.proofs.by_percentages.Reads as by-percentages
-use Rattle.uncertainty.proofs.by_codes.Reads as by-codes
+use Rattle.uncertainty.proofs.Uncertainties.by_percentages.Reads as by-percentages
+use Rattle.uncertainty.proofs.Uncertainties.by_codes.Reads as by-codes
 use Rattle.promises.proofs.OneAnswer.{OneAnswer, by-equation}
 
 pub by-percentages-one : OneAnswer by-percentages.Learnt

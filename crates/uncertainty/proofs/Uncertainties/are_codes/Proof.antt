@@ -1,7 +1,7 @@
 -- The four tests, one after the other.
 use Rattle.uncertainty.specs.Uncertainty.{areCodes}
-use Rattle.uncertainty.proofs.are_codes.Statement.{statement}
-use Rattle.uncertainty.proofs.are_codes.Tie as tie
+use Rattle.uncertainty.proofs.Uncertainties.are_codes.Statement.{statement}
+use Rattle.uncertainty.proofs.Uncertainties.are_codes.Tie as tie
 
 returns : tie.Need-returns
 unfolding areCodes

@@ -1,7 +1,7 @@
 -- The six tests, one after the other.
 use Rattle.uncertainty.specs.Uncertainty.{arePercentages}
-use Rattle.uncertainty.proofs.are_percentages.Statement.{statement}
-use Rattle.uncertainty.proofs.are_percentages.Tie as tie
+use Rattle.uncertainty.proofs.Uncertainties.are_percentages.Statement.{statement}
+use Rattle.uncertainty.proofs.Uncertainties.are_percentages.Tie as tie
 
 returns : tie.Need-returns
 unfolding arePercentages
