@@ -3,7 +3,7 @@ use mathlib.Core.Path.{_≡_, refl, sym, _∙_}
 use mathlib.Core.Bool.{Bool, true, false, cond, _&&_, true≢false}
 use mathlib.Core.Logic.{⊎-elim}
 use Prim.Native.Nat.{ℕ, zero, suc, _+_, _-_, _*_, _≤_, _<_, zero-le}
-use native.Mathlib.Nat.{mul-le-mul, mul-le-mul-left, le-trans, eq-or-lt-of-le, le-of-suc-le-suc}
+use native.Mathlib.Nat.{zero-mul, mul-le-mul, mul-le-mul-left, le-trans, eq-or-lt-of-le, le-of-suc-le-suc}
 use native.Mathlib.Omega.{arith}
 use borrow.Author.Tests.{leb-true, leb-false, le-leb}
 use Rattle.numbers.proofs.Eight.{both-true, three-true}
@@ -49,7 +49,7 @@ module _ (test : ℕ → Bool) where
 module _ (S : ℕ) where
   none-allowed : allows S 0 ≡ true
   unfolding allows
-  none-allowed = le-leb _ _ (omega arith)
+  none-allowed = rw (zero-mul S)
 
   -- A factor that is not allowed is above 0.
   pub above-none : (p : ℕ) → allows S p ≡ false → 0 < p
