@@ -128,9 +128,13 @@ code-is code t = ⊎-elim (λ one. inl (eqb-true code 1 one)) (λ two. inr (eqb-
 is-code : (code : ℕ) → (code ≡ 1) ⊎ (code ≡ 2) → isCode code ≡ true
 is-code code = ⊎-elim (λ one. rw one) (λ two. rw two)
 
-takes-chosen : (code lower higher value : ℕ) → Takes code lower higher value → value ≡ chosen code lower higher
-takes-chosen code lower higher value (takes-lower one is) = rw (one, is)
-takes-chosen code lower higher value (takes-higher two is) = rw (two, is)
+takes-chosen : {code lower higher value : ℕ} → Takes code lower higher value → value ≡ chosen code lower higher
+takes-chosen (takes-lower one is) = rw (one, is)
+takes-chosen (takes-higher two is) = rw (two, is)
+
+code-within : {code : ℕ} → (code ≡ 1) ⊎ (code ≡ 2) → (1 ≤ code) × (code ≤ 2)
+code-within (inl one) = (omega arith, omega arith)
+code-within (inr two) = (omega arith, omega arith)
 
 chosen-rises : (code code′ : ℕ) {lower higher : ℕ} → (code ≡ 1) ⊎ (code ≡ 2) → (code′ ≡ 1) ⊎ (code′ ≡ 2) → code ≤ code′ → lower ≤ higher
     → chosen code lower higher ≤ chosen code′ lower higher
@@ -138,6 +142,28 @@ chosen-rises code code′ {lower} (inl one) (inl one′) h low = rw (one, one′
 chosen-rises code code′ (inl one) (inr two′) h low = rw (one, two′) low
 chosen-rises code code′ (inr two) (inl one′) h low = absurd (omega arith)
 chosen-rises code code′ {lower} {higher} (inr two) (inr two′) h low = rw (two, two′) (le-refl higher)
+
+chosen-less : (u u′ : Uncertainties) → Coded u → Coded u′ → AtMost u u′ → AtMost (chosenBy u) (chosenBy u′)
+unfolding chosenBy
+chosen-less u u′ k k′ h =
+    record {
+      most-a = h .most-a;
+      most-b = h .most-b;
+      most-c = chosen-rises (u .c) (u′ .c) (k .c-code) (k′ .c-code) (h .most-c) (lit≤ tt);
+      most-d = chosen-rises (u .d) (u′ .d) (k .d-code) (k′ .d-code) (h .most-d) (lit≤ tt);
+      most-e = chosen-rises (u .e) (u′ .e) (k .e-code) (k′ .e-code) (h .most-e) (lit≤ tt);
+      most-g = chosen-rises (u .g) (u′ .g) (k .g-code) (k′ .g-code) (h .most-g) (lit≤ tt);
+    }
+
+-- Least and most uncertainty by codes.
+abbrev lowest : Uncertainties
+lowest = entering 0 0 1 1 1 1
+
+abbrev highest : Uncertainties
+highest = entering 100 100 2 2 2 2
+
+coded-at : (n m : ℕ) → n ≤ 100 → (m ≡ 1) ⊎ (m ≡ 2) → Coded (entering n n m m m m)
+coded-at n m h is = record { a-most = h; b-most = h; c-code = is; d-code = is; e-code = is; g-code = is }
 
 -- Four by codes.
 module _ (u : Uncertainties) where
@@ -158,6 +184,28 @@ module _ (u : Uncertainties) where
       }
 
   module _ (h : Coded u) where
+    least-coded : AtMost lowest u
+    least-coded =
+        record {
+          most-a = zero-le;
+          most-b = zero-le;
+          most-c = code-within (h .c-code) .0;
+          most-d = code-within (h .d-code) .0;
+          most-e = code-within (h .e-code) .0;
+          most-g = code-within (h .g-code) .0;
+        }
+
+    most-coded : AtMost u highest
+    most-coded =
+        record {
+          most-a = h .a-most;
+          most-b = h .b-most;
+          most-c = code-within (h .c-code) .1;
+          most-d = code-within (h .d-code) .1;
+          most-e = code-within (h .e-code) .1;
+          most-g = code-within (h .g-code) .1;
+        }
+
     all-coded : areCodes u ≡ true
     unfolding areCodes
     all-coded = simp (is-code (u .c) (h .c-code), is-code (u .d) (h .d-code), is-code (u .e) (h .e-code), is-code (u .g) (h .g-code))
@@ -171,41 +219,16 @@ module _ (u : Uncertainties) where
   pub codes-where : (byCodes u .refusal ≡ 0) ↔ Coded u
   codes-where = (coded-when, λ h. rw (chosen-is h) (chosen-taken h))
 
-  -- Chosen values are from the lower ones to the higher ones.
-  at-lowest : AtMost (entering 0 0 5 0 0 5) (chosenBy u)
-  unfolding chosenBy
-  at-lowest =
-      record {
-        most-a = zero-le;
-        most-b = zero-le;
-        most-c = Answer.chosen-either (λ x. 5 ≤ x) (u .c) (lit≤ tt) (lit≤ tt);
-        most-d = zero-le;
-        most-e = zero-le;
-        most-g = Answer.chosen-either (λ x. 5 ≤ x) (u .g) (lit≤ tt) (lit≤ tt);
-      }
-
-  at-highest : u .a ≤ 100 → u .b ≤ 100 → AtMost (chosenBy u) (entering 100 100 15 5 50 20)
-  unfolding chosenBy
-  at-highest ha hb =
-      record {
-        most-a = ha;
-        most-b = hb;
-        most-c = Answer.chosen-either (λ x. x ≤ 15) (u .c) (lit≤ tt) (lit≤ tt);
-        most-d = Answer.chosen-either (λ x. x ≤ 5) (u .d) (lit≤ tt) (lit≤ tt);
-        most-e = Answer.chosen-either (λ x. x ≤ 50) (u .e) (lit≤ tt) (lit≤ tt);
-        most-g = Answer.chosen-either (λ x. x ≤ 20) (u .g) (lit≤ tt) (lit≤ tt);
-      }
-
   by-table : (values : Uncertainties) → ByTable u values → values ≡ chosenBy u
   unfolding chosenBy
   by-table values t =
       rw (
         ← t .a-entered,
         ← t .b-entered,
-        ← takes-chosen (u .c) 5 15 (values .c) (t .c-chosen),
-        ← takes-chosen (u .d) 0 5 (values .d) (t .d-chosen),
-        ← takes-chosen (u .e) 0 50 (values .e) (t .e-chosen),
-        ← takes-chosen (u .g) 5 20 (values .g) (t .g-chosen),
+        ← takes-chosen (t .c-chosen),
+        ← takes-chosen (t .d-chosen),
+        ← takes-chosen (t .e-chosen),
+        ← takes-chosen (t .g-chosen),
       )
 
   module _ (values : Uncertainties) (z : byCodes u .refusal ≡ 0) (t : ByTable u values) where
@@ -213,14 +236,12 @@ module _ (u : Uncertainties) where
     codes-chosen = rw (by-table values t) (chosen-is (coded-when z))
 
     pub codes-well : Determined values 39 (byCodes u .factor) 93
-    unfolding factorFor allows squaresOf
+    unfolding factorFor allows squaresOf chosenBy
     codes-well =
         let h = coded-when z in
-        let low = entering 0 0 5 0 0 5 in
-        let high = entering 100 100 15 5 50 20 in
-        rw (by-table values t, chosen-is h, factor-is (chosenBy u) (chosen-taken h))
-        (determined (chosenBy u) (squaresOf low) (squaresOf high) (Laws.squares-rise low (chosenBy u) at-lowest)
-        (Laws.squares-rise (chosenBy u) high (at-highest (h .a-most) (h .b-most))) (lit< tt))
+        let from = Laws.squares-rise (chosenBy lowest) (chosenBy u) (chosen-less lowest u (coded-at 0 1 zero-le (inl refl)) h (least-coded h)) in
+        let to = Laws.squares-rise (chosenBy u) (chosenBy highest) (chosen-less u highest h (coded-at 100 2 (le-refl 100) (inr refl)) (most-coded h)) in
+        rw (by-table values t, chosen-is h, factor-is (chosenBy u) (chosen-taken h)) (determined (chosenBy u) (squaresOf (chosenBy lowest)) (squaresOf (chosenBy highest)) from to (lit< tt))
 
 -- More uncertainty: a refused call has the factor 0, and where the larger call is accepted, so is the smaller.
 at-most-follows : (u u′ u″ : Uncertainties) → AtMost u u′ → AtMost u′ u″ → AtMost u u″
@@ -241,18 +262,6 @@ factor-falls u u′ h =
           rw (factor-is u′ z, factor-is u smaller) (Laws.factor-falls (squaresOf u) (squaresOf u′) (Laws.squares-rise u u′ h))
       | no z ↦ rw (Answer.none-entered u′ z) zero-le
     ]
-
-chosen-less : (u u′ : Uncertainties) → Coded u → Coded u′ → AtMost u u′ → AtMost (chosenBy u) (chosenBy u′)
-unfolding chosenBy
-chosen-less u u′ k k′ h =
-    record {
-      most-a = h .most-a;
-      most-b = h .most-b;
-      most-c = chosen-rises (u .c) (u′ .c) (k .c-code) (k′ .c-code) (h .most-c) (lit≤ tt);
-      most-d = chosen-rises (u .d) (u′ .d) (k .d-code) (k′ .d-code) (h .most-d) (lit≤ tt);
-      most-e = chosen-rises (u .e) (u′ .e) (k .e-code) (k′ .e-code) (h .most-e) (lit≤ tt);
-      most-g = chosen-rises (u .g) (u′ .g) (k .g-code) (k′ .g-code) (h .most-g) (lit≤ tt);
-    }
 
 pub codes-fall : (u u′ : Uncertainties) → byCodes u .refusal ≡ 0 → AtMost u u′ → byCodes u′ .factor ≤ byCodes u .factor
 codes-fall u u′ z h =
