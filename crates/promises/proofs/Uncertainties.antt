@@ -93,9 +93,9 @@ module _ (u : Uncertainties) where
       let S = squaresOf u in
       record {
         equation-four = equation-four S (V² u) V-is;
-        at-least = Laws.factor-falls S high most;
-        at-most = Laws.factor-falls low S least;
-        recordable = simp (le-leb 1 (factorFor S) (omega (arith, Laws.factor-falls S high most)), le-leb (factorFor S) 100 (Laws.factor-most S));
+        at-least = Laws.falls-as-S-rises S high most;
+        at-most = Laws.falls-as-S-rises low S least;
+        recordable = simp (le-leb 1 (factorFor S) (omega (arith, Laws.falls-as-S-rises S high most)), le-leb (factorFor S) 100 (Laws.factor-most S));
       }
 
 -- Six percentages.
@@ -259,7 +259,7 @@ pub factor-falls : (u u′ : Uncertainties) → AtMost u u′ → byPercentages 
 factor-falls u u′ h =
     elim (ℕ-discrete (byPercentages u′ .refusal) 0) [
       | yes z ↦ let smaller = factor-where u .1 (at-most-follows u u′ Laws.allFull h (factor-where u′ .0 z)) in
-          rw (factor-is u′ z, factor-is u smaller) (Laws.factor-falls (squaresOf u) (squaresOf u′) (Laws.squares-rise u u′ h))
+          rw (factor-is u′ z, factor-is u smaller) (Laws.falls-as-S-rises (squaresOf u) (squaresOf u′) (Laws.squares-rise u u′ h))
       | no z ↦ rw (Answer.none-entered u′ z) zero-le
     ]
 

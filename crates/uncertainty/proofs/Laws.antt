@@ -89,8 +89,8 @@ fewer-allowed : (S S′ p : ℕ) → S ≤ S′ → allows S′ p ≡ true → a
 unfolding allows
 fewer-allowed S S′ p h e = le-leb _ _ (le-trans (mul-le-mul-left (p * p) h) (rule S′ p e))
 
-pub factor-falls : (S S′ : ℕ) → S ≤ S′ → factorFor S′ ≤ factorFor S
-factor-falls S S′ h = no-more-allowed S (factorFor S′) (factor-most S′) (fewer-allowed S S′ (factorFor S′) h (factor-allowed S′))
+pub falls-as-S-rises : (S S′ : ℕ) → S ≤ S′ → factorFor S′ ≤ factorFor S
+falls-as-S-rises S S′ h = no-more-allowed S (factorFor S′) (factor-most S′) (fewer-allowed S S′ (factorFor S′) h (factor-allowed S′))
 
 -- Where each of six is at most the same of six others, so is their sum of squares.
 pub squares-rise : (u u′ : Uncertainties) → AtMost u u′ → squaresOf u ≤ squaresOf u′
