@@ -22,7 +22,6 @@ use Rattle.ledger.proofs.Accepted as step
 use Rattle.ledger.proofs.Take.{taken, take-refusal}
 use Rattle.ledger.proofs.History.{run-roomy}
 use Rattle.samples.proofs.Answer.{nothing-sorted}
-use Rattle.uncertainty.proofs.Answer.{none-entered, none-coded}
 use Rattle.lines.specs.Listing.{answerText, runText, wholeRun, listingOf}
 use Rattle.promises.specs.Offering.{Offering, offering, recordsIn}
 use Rattle.promises.specs.Exact.{inert, exactStockAt}
@@ -36,7 +35,7 @@ use Rattle.promises.proofs.OneRun.{one-run}
 use Rattle.promises.proofs.Site.{kept-site}
 use Rattle.promises.proofs.Worked.{worked}
 use Rattle.promises.proofs.Sorting.{sorted-where, sorted-well, sorted-light}
-use Rattle.promises.proofs.Uncertainties.{phi-is, factor-where, factor-well, factor-one, codes-where, codes-chosen, codes-well, factor-falls, codes-fall, factor-86}
+use Rattle.promises.proofs.Uncertainties.{phi-is, V-is, factor-18, codes-18, codes-19, factor-where, factor-well, factor-one, codes-where, codes-chosen, codes-well, factor-falls, codes-fall, factor-86}
 use Rattle.promises.proofs.Months.{months-share, only-17, always-17, year-kept}
 
 -- Every rate of a type that decays is in the table, by one test over the types and climates.
@@ -140,14 +139,16 @@ promises =
       sorted-none = nothing-sorted;
       sorted-light = sorted-light;
       phi-is = phi-is;
+      V-is = V-is;
       factor-where = factor-where;
       factor-well = factor-well;
       factor-one = factor-one;
       codes-where = codes-where;
       codes-chosen = codes-chosen;
       codes-well = codes-well;
-      factor-none = none-entered;
-      codes-none = none-coded;
+      factor-18 = factor-18;
+      codes-18 = codes-18;
+      codes-19 = codes-19;
       factor-falls = factor-falls;
       codes-fall = codes-fall;
       factor-86 = factor-86;

@@ -1,6 +1,6 @@
 -- What request d claims: its rule over whole numbers (uncertainty), carried to the fractions of equations (3) and (4), and who is accepted.
 use mathlib.Core.Path.{_≡_, refl, sym, ap, _∙_}
-use mathlib.Core.Bool.{true, _&&_}
+use mathlib.Core.Bool.{Bool, true, false, _&&_}
 use mathlib.Core.Logic.{_⊎_, inl, inr, ⊎-elim, _↔_}
 use Prim.Native.Nat.{ℕ, _+_, _-_, _*_, _≤_, _<_, zero-le}
 use native.Mathlib.Nat.{mul-le-mul-right, mul-pos, le-of-eq, le-refl, le-trans, le-antisymm}
@@ -82,7 +82,7 @@ module _ (S : ℕ) (square : Fraction) (is : square ≈ over S 10000 (lit< tt)) 
 
 module _ (u : Uncertainties) where
   -- V² is S / 100².
-  V-is : V² u ≈ over (squaresOf u) 10000 (lit< tt)
+  pub V-is : V² u ≈ over (squaresOf u) 10000 (lit< tt)
   unfolding V² squaresOf
   V-is = omega arith
 
@@ -108,6 +108,13 @@ module _ (u : Uncertainties) where
     λ z. Laws.each-at-most u (Answer.when-entered u z),
     λ h. rw (sym (Answer.worked-out u (Answer.all-entered u (both-when (h .most-a) (h .most-b)) (h .most-c) (h .most-d) (h .most-e) (h .most-g)) refl)),
   )
+
+  pub factor-18 : (Entered u → ⊥) → byPercentages u ≡ record { refusal = 18; factor = 0 }
+  factor-18 bad = by-test (arePercentages u) refl
+    where
+      by-test : (t : Bool) → arePercentages u ≡ t → byPercentages u ≡ record { refusal = 18; factor = 0 }
+      by-test true t = absurd (bad (Laws.each-at-most u t))
+      by-test false t = sym (Answer.percentage-over u t)
 
   factor-is : byPercentages u .refusal ≡ 0 → byPercentages u .factor ≡ factorFor (squaresOf u)
   factor-is z = rw (sym (Answer.worked-out u (Answer.when-entered u z) refl))
@@ -167,21 +174,41 @@ coded-at n m h is = record { a-most = h; b-most = h; c-code = is; d-code = is; e
 
 -- Four by codes.
 module _ (u : Uncertainties) where
-  coded-when : byCodes u .refusal ≡ 0 → Coded u
+  both-most : Answer.bothEntered u ≡ true → (u .a ≤ 100) × (u .b ≤ 100)
+  both-most t =
+      let both = both-true (isPercentage (u .a)) (isPercentage (u .b)) t in
+      (leb-true (u .a) 100 (both .0), leb-true (u .b) 100 (both .1))
+
+  coded-if : (u .a ≤ 100) × (u .b ≤ 100) → areCodes u ≡ true → Coded u
   unfolding areCodes
-  coded-when z =
-      let t = Answer.when-coded u z in
-      let entered = both-true (isPercentage (u .a)) (isPercentage (u .b)) (t .0) in
-      let fourth = both-true (isCode (u .c) && isCode (u .d) && isCode (u .e)) (isCode (u .g)) (t .1) in
+  coded-if entered t =
+      let fourth = both-true (isCode (u .c) && isCode (u .d) && isCode (u .e)) (isCode (u .g)) t in
       let three = three-true (isCode (u .c)) (isCode (u .d)) (isCode (u .e)) (fourth .0) in
       record {
-        a-most = leb-true (u .a) 100 (entered .0);
-        b-most = leb-true (u .b) 100 (entered .1);
+        a-most = entered .0;
+        b-most = entered .1;
         c-code = code-is (u .c) (three .0);
         d-code = code-is (u .d) (three .1 .0);
         e-code = code-is (u .e) (three .1 .1);
         g-code = code-is (u .g) (fourth .1);
       }
+
+  coded-when : byCodes u .refusal ≡ 0 → Coded u
+  coded-when z = let t = Answer.when-coded u z in coded-if (both-most (t .0)) (t .1)
+
+  pub codes-18 : ((u .a ≤ 100) × (u .b ≤ 100) → ⊥) → byCodes u ≡ record { refusal = 18; factor = 0 }
+  codes-18 bad = by-test (Answer.bothEntered u) refl
+    where
+      by-test : (t : Bool) → Answer.bothEntered u ≡ t → byCodes u ≡ record { refusal = 18; factor = 0 }
+      by-test true t = absurd (bad (both-most t))
+      by-test false t = sym (Answer.entered-over u t)
+
+  pub codes-19 : u .a ≤ 100 → u .b ≤ 100 → (Coded u → ⊥) → byCodes u ≡ record { refusal = 19; factor = 0 }
+  codes-19 ha hb bad = by-test (areCodes u) refl
+    where
+      by-test : (t : Bool) → areCodes u ≡ t → byCodes u ≡ record { refusal = 19; factor = 0 }
+      by-test true t = absurd (bad (coded-if (ha, hb) t))
+      by-test false t = sym (Answer.not-coded u (both-when u ha hb) t)
 
   module _ (h : Coded u) where
     least-coded : AtMost lowest u

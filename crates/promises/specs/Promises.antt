@@ -6,6 +6,7 @@ use mathlib.Core.Logic.{_↔_}
 use mathlib.Core.List.{List, map}
 use Prim.Native.Nat.{ℕ, _+_, _-_, _*_, _/_, _%_, _^_, _≤_, _<_}
 use native.Mathlib.Omega.{arith}
+use lib.Dec.{lit<}
 use lib.ListN.{length, getD}
 use Rattle.numbers.specs.Eight.{eight, sumOf, allOf}
 use Rattle.numbers.specs.Fault.{firstOf, ahead}
@@ -25,7 +26,7 @@ use Rattle.ledger.specs.declared.book.Ledger.{Ledger}
 use Rattle.ledger.specs.declared.answer.Answer.{Answer}
 use Rattle.ledger.specs.declared.answer.Outcome.{Outcome}
 use Rattle.samples.specs.Samples.{fractionAt, numberOf, sortedOf}
-use Rattle.uncertainty.specs.Uncertainty.{entering, AtMost, byPercentages, byCodes}
+use Rattle.uncertainty.specs.Uncertainty.{entering, AtMost, squaresOf, byPercentages, byCodes}
 use Rattle.uncertainty.specs.declared.Uncertainties.{Uncertainties}
 use Rattle.image.specs.Image.{imageBytes}
 use Rattle.line.specs.Line.{acceptedText}
@@ -177,8 +178,9 @@ pub record Promises : Type 0 where
   -- The masses of any call are such that a record that holds them is not refused with 9.
   pub sorted-light : (kind W : ℕ) (samples : List ℕ) (l : Ledger) (bytes : List ℕ) (room : ℕ)
       → ((t : ℕ) → t < 8 → massOf bytes t ≡ getD (sortedOf kind W samples .masses) t 0) → takeOf l bytes room .refusal ≡ 9 → ⊥
-  -- Document 02, request d: φ = 1 / (1 + v).
+  -- Document 02, request d: φ = 1 / (1 + v), and V = √S / 100.
   pub phi-is : (n m : ℕ) (above : 0 < m) → φ n m above ⊗ (whole 1 ⊕ v n m above) ≈ whole 1
+  pub V-is : (u : Uncertainties) → V² u ≈ over (squaresOf u) (100 * 100) (lit< tt)
   -- Six percentages are accepted exactly where each is 0 to 100. The factor is then 'equation (4) rounded down', which no other number
   -- is: 28 to 100.
   pub factor-where : (u : Uncertainties) → (byPercentages u .refusal ≡ 0) ↔ Entered u
@@ -188,9 +190,10 @@ pub record Promises : Type 0 where
   pub codes-where : (u : Uncertainties) → (byCodes u .refusal ≡ 0) ↔ Coded u
   pub codes-chosen : (u values : Uncertainties) → byCodes u .refusal ≡ 0 → ByTable u values → byCodes u ≡ byPercentages values
   pub codes-well : (u values : Uncertainties) → byCodes u .refusal ≡ 0 → ByTable u values → Determined values 39 (byCodes u .factor) 93
-  -- A refusal comes 'with factor 0'.
-  pub factor-none : (u : Uncertainties) → (byPercentages u .refusal ≡ 0 → ⊥) → byPercentages u .factor ≡ 0
-  pub codes-none : (u : Uncertainties) → (byCodes u .refusal ≡ 0 → ⊥) → byCodes u .factor ≡ 0
+  -- 'Refusals: 18 an entered percentage over 100, 19 a code other than 1 and 2, in that order, with factor 0.'
+  pub factor-18 : (u : Uncertainties) → (Entered u → ⊥) → byPercentages u ≡ record { refusal = 18; factor = 0 }
+  pub codes-18 : (u : Uncertainties) → ((u .a ≤ 100) × (u .b ≤ 100) → ⊥) → byCodes u ≡ record { refusal = 18; factor = 0 }
+  pub codes-19 : (u : Uncertainties) → u .a ≤ 100 → u .b ≤ 100 → (Coded u → ⊥) → byCodes u ≡ record { refusal = 19; factor = 0 }
   -- More uncertainty never gives a higher factor.
   pub factor-falls : (u u′ : Uncertainties) → AtMost u u′ → byPercentages u′ .factor ≤ byPercentages u .factor
   pub codes-fall : (u u′ : Uncertainties) → byCodes u .refusal ≡ 0 → AtMost u u′ → byCodes u′ .factor ≤ byCodes u .factor
