@@ -262,13 +262,13 @@ uint8_t landfill_masses(uint8_t kind, uint64_t total, const uint8_t *samples, si
 /* Works the correction factor out from uncertainties and answers 0: equations (3) and (4) of TOOL04, its option 2.
  * a, b, c, d, e and g are whole percentages, 0 to 100: the uncertainty of the masses W (a), of DOC (b), of DOCf (c), of F (d),
  * of the methane correction factor (e) and of the exponential term (g). With S the sum of their squares, *factor becomes
- * the greatest whole p up to 100 with p * p * S <= (10000 - 100 * p)^2. That is 100 / (1 + v) rounded down, where v is the
+ * the greatest whole p up to 100 with p * p * S <= (10000 - 100 * p)^2. That is 100 / (1 + V) rounded down, where V is the
  * root of S, divided by 100. It is 28 to 100, so that a record takes it (its byte at LANDFILL_RECORD_AT_FACTOR).
  * Answers 18 with *factor 0 when one of the six is over 100. */
 uint8_t landfill_factor(uint8_t a, uint8_t b, uint8_t c, uint8_t d, uint8_t e, uint8_t g, uint8_t *factor);
 
-/* The same, where c, d, e and g are chosen as Table 3 of TOOL04 instructs: code 1 takes the lower value, 2 the higher one,
- *     of c 5 or 15, of d 0 or 5, of e 0 or 50, of g 5 or 20 percent.
+/* The same, where c, d, e and g are chosen as Table 3 of TOOL04 instructs (docs/METHOD.md has when to take which): code 1 takes
+ * the lower value, 2 the higher one, of c 5 or 15, of d 0 or 5, of e 0 or 50, of g 5 or 20 percent.
  * a and b are percentages, as above. *factor is what landfill_factor gives for the chosen values; it is 39 to 93.
  * Answers 18 when a or b is over 100, then 19 when a code is not 1 or 2, with *factor 0. */
 uint8_t landfill_factor_by_codes(uint8_t a, uint8_t b, uint8_t c, uint8_t d, uint8_t e, uint8_t g, uint8_t *factor);

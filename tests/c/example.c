@@ -77,11 +77,12 @@ static void sorted_month(struct landfill_record month)
     take_first("month 1", &month);
 }
 
-/* A managed site with a factor of its own: masses and DOC are 10 percent uncertain, the others by their lower values. */
+/* A managed site of food waste with a factor of its own: masses and DOC are 10 percent uncertain; DOCf, F and MCF have their
+ * lower values, the exponential term the higher one, since k is not above 0.2. */
 static void managed_year(struct landfill_record year)
 {
     uint8_t factor;
-    expect("uncertainties", landfill_factor_by_codes(10, 10, LANDFILL_LOWER, LANDFILL_LOWER, LANDFILL_LOWER, LANDFILL_LOWER,
+    expect("uncertainties", landfill_factor_by_codes(10, 10, LANDFILL_LOWER, LANDFILL_LOWER, LANDFILL_LOWER, LANDFILL_HIGHER,
                                                      &factor));
     year.period = 1;
     year.site_class = LANDFILL_ANAEROBIC_MANAGED;

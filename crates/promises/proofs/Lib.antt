@@ -11,6 +11,7 @@ pub mod Site
 pub mod Worked
 pub mod Sorting
 pub mod Months
+pub mod Equation
 pub mod Uncertainties
 pub mod Proved
 pub mod OneAnswer

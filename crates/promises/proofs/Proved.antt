@@ -35,7 +35,8 @@ use Rattle.promises.proofs.OneRun.{one-run}
 use Rattle.promises.proofs.Site.{kept-site}
 use Rattle.promises.proofs.Worked.{worked}
 use Rattle.promises.proofs.Sorting.{sorted-where, sorted-well, sorted-light}
-use Rattle.promises.proofs.Uncertainties.{phi-is, V-is, factor-18, codes-18, codes-19, factor-where, factor-well, factor-one, codes-where, codes-chosen, codes-well, factor-falls, codes-fall, factor-86}
+use Rattle.promises.proofs.Equation.{phi-is, V-is}
+use Rattle.promises.proofs.Uncertainties.{factor-where, factor-well, factor-one, factor-18, codes-where, codes-18, codes-19, codes-table, codes-chosen, codes-well, factor-falls, codes-fall, factor-86}
 use Rattle.promises.proofs.Months.{months-share, only-17, always-17, year-kept}
 
 -- Every rate of a type that decays is in the table, by one test over the types and climates.
@@ -144,6 +145,7 @@ promises =
       factor-well = factor-well;
       factor-one = factor-one;
       codes-where = codes-where;
+      codes-table = codes-table;
       codes-chosen = codes-chosen;
       codes-well = codes-well;
       factor-18 = factor-18;

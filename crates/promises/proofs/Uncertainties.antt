@@ -1,98 +1,29 @@
--- What request d claims: its rule over whole numbers (uncertainty), carried to the fractions of equations (3) and (4), and who is accepted.
-use mathlib.Core.Path.{_≡_, refl, sym, ap, _∙_}
+-- What request d claims of its calls: who is accepted, what the factor is (Equation.antt), and how it moves.
+use mathlib.Core.Path.{_≡_, refl, sym, _∙_}
 use mathlib.Core.Bool.{Bool, true, false, _&&_}
 use mathlib.Core.Logic.{_⊎_, inl, inr, ⊎-elim, _↔_}
-use Prim.Native.Nat.{ℕ, _+_, _-_, _*_, _≤_, _<_, zero-le}
-use native.Mathlib.Nat.{mul-le-mul-right, mul-pos, le-of-eq, le-refl, le-trans, le-antisymm}
-use native.Mathlib.Decide.{decLe, ℕ-discrete}
+use Prim.Native.Nat.{ℕ, _≤_, _<_, zero-le}
+use native.Mathlib.Nat.{le-refl, le-trans}
+use native.Mathlib.Decide.{ℕ-discrete}
 use native.Mathlib.Omega.{arith}
 use borrow.Author.Tests.{leb-true, le-leb, eqb-true}
 use lib.Dec.{eqb, lit<, lit≤}
-use Rattle.numbers.specs.Fraction.{Fraction, over, whole, _⊕_, _⊗_, _≼_, _≺_, _≈_}
 use Rattle.numbers.proofs.Eight.{both-true, three-true, either-true}
-use Rattle.numbers.proofs.Fraction.{at-most-trans}
-use Rattle.numbers.proofs.Split.{share-between}
-use Rattle.uncertainty.specs.Uncertainty.{entering, AtMost, isPercentage, arePercentages, squaresOf, allows, factorFor, isCode, areCodes, chosen, chosenBy, percentageFaults, byPercentages, byCodes}
+use Rattle.uncertainty.specs.Uncertainty.{entering, allFull, AtMost, isPercentage, arePercentages, squaresOf, allows, factorFor, isCode, areCodes, chosen, chosenBy, bothEntered, percentageFaults, byPercentages, byCodes}
 use Rattle.uncertainty.specs.declared.Uncertainties.{Uncertainties}
 use Rattle.uncertainty.proofs.Laws
 use Rattle.uncertainty.proofs.Answer
-use Rattle.uncertainty.proofs.Beside.{fits-below, fails-above, still-below, yet-less}
-use Rattle.promises.specs.Uncertainties.{V², v, v², φ, EquationFour, Entered, Takes, takes-lower, takes-higher, ByTable, Coded, Determined}
-
-pub phi-is : (n m : ℕ) (above : 0 < m) → φ n m above ⊗ (whole 1 ⊕ v n m above) ≈ whole 1
-phi-is n m above = omega arith
-
--- The factor for S, at a V² that is S / 100².
-module _ (S : ℕ) (square : Fraction) (is : square ≈ over S 10000 (lit< tt)) where
-  abbrev p : ℕ
-  p = factorFor S
-
-  below : (n m : ℕ) (above : 0 < m) → v² n m above ≼ square → p * (m + n) ≤ 100 * m
-  below n m above h =
-      fits-below S p (10000 - 100 * p) n m (omega (arith, Laws.factor-most S)) (Laws.factor-fits S)
-      (omega (arith, at-most-trans (v² n m above) square (over S 10000 (lit< tt)) h (le-of-eq is)))
-
-  beyond : (n m : ℕ) (above : 0 < m) → square ≼ v² n m above → 100 * m < (p + 1) * (m + n)
-  beyond n m above h =
-      elim (decLe (p + 1) 100) [
-        | yes l ↦ fails-above S (p + 1) (10000 - 100 * (p + 1)) n m (omega arith) above (Laws.next-fails S l)
-            (omega (arith, at-most-trans (over S 10000 (lit< tt)) square (v² n m above) (le-of-eq (sym is)) h))
-        | no l ↦ let more : 101 ≤ p + 1 = omega arith in omega (arith, mul-le-mul-right (m + n) more)
-      ]
-
-  equation-four : EquationFour square p
-  equation-four =
-      record {
-        at-root = λ n m above h.
-            share-between _ _ p (omega arith) (omega (arith, below n m above (le-of-eq h))) (omega (arith, beyond n m above (le-of-eq (sym h))));
-        below-root = λ n m above h. omega (arith, below n m above h);
-        above-root = λ n m above h. omega (arith, beyond n m above h);
-      }
-
-  -- No other number meets it: one below p does not at v = (100 − p) / p, which is at or above V, and one above p at no v that is close below V.
-  module _ (some : 0 < p) (q : ℕ) (met : EquationFour square q) where
-    not-less : p ≤ q
-    not-less =
-        let k = 100 - p in
-        let whole : p + k ≡ 100 = omega (arith, Laws.factor-most S) in
-        let r : 10000 - 100 * p ≡ 100 * k = omega arith in
-        let fits : S * (p * p) ≤ k * k * 10000 = omega (arith, rw r at (Laws.factor-fits S)) in
-        let h = met .above-root k p some (at-most-trans square (over S 10000 (lit< tt)) (v² k p some) (le-of-eq is) (omega arith)) in
-        omega (arith, h, ap (λ (x : ℕ). (q + 1) * x) whole)
-
-    at-most-at : (n m : ℕ) (above : 0 < m) → n * n * 10000 ≤ S * (m * m) → q * (m + n) ≤ 100 * m
-    at-most-at n m above h =
-        omega (arith, met .below-root n m above (at-most-trans (v² n m above) (over S 10000 (lit< tt)) square (omega arith) (le-of-eq (sym is))))
-
-    not-more : q ≤ p
-    not-more =
-        elim (decLe (p + 1) 100) [
-          | yes l ↦ let r = 10000 - 100 * (p + 1) in
-              let k = 2 * r + 1 in
-              let left : r + 100 * (p + 1) ≡ 10000 = omega arith in
-              let pos : 0 < 100 * (p + 1) * k = mul-pos (omega arith) (omega arith) in
-              let h = at-most-at (r * k + 1) (100 * (p + 1) * k) pos (still-below S (p + 1) r k left refl (Laws.next-fails S l)) in
-              let less : q < p + 1 = yet-less S (p + 1) r k left refl q (omega arith) h in
-              omega arith
-          | no l ↦ omega (arith, at-most-at 0 1 (lit< tt) (omega arith))
-        ]
-
-    no-other : q ≡ p
-    no-other = le-antisymm not-more not-less
+use Rattle.promises.specs.Uncertainties.{V², EquationFour, Entered, Takes, takes-lower, takes-higher, ByTable, Coded, Determined}
+use Rattle.promises.proofs.Equation.{equation-four, no-other, V-is}
 
 module _ (u : Uncertainties) where
-  -- V² is S / 100².
-  pub V-is : V² u ≈ over (squaresOf u) 10000 (lit< tt)
-  unfolding V² squaresOf
-  V-is = omega arith
-
   -- Where S is from one sum to another, the factor is from the other's to the one's.
   determined : (low high : ℕ) → low ≤ squaresOf u → squaresOf u ≤ high → 0 < factorFor high
       → Determined u (factorFor high) (factorFor (squaresOf u)) (factorFor low)
   determined low high least most some =
       let S = squaresOf u in
       record {
-        equation-four = equation-four S (V² u) V-is;
+        equation-four = equation-four S (V² u) (V-is u);
         at-least = Laws.falls-as-S-rises S high most;
         at-most = Laws.falls-as-S-rises low S least;
         recordable = simp (le-leb 1 (factorFor S) (omega (arith, Laws.falls-as-S-rises S high most)), le-leb (factorFor S) 100 (Laws.factor-most S));
@@ -100,7 +31,7 @@ module _ (u : Uncertainties) where
 
 -- Six percentages.
 module _ (u : Uncertainties) where
-  both-when : u .a ≤ 100 → u .b ≤ 100 → Answer.bothEntered u ≡ true
+  both-when : u .a ≤ 100 → u .b ≤ 100 → bothEntered u ≡ true
   both-when ha hb = simp (le-leb (u .a) 100 ha, le-leb (u .b) 100 hb)
 
   pub factor-where : (byPercentages u .refusal ≡ 0) ↔ Entered u
@@ -139,6 +70,10 @@ takes-chosen : {code lower higher value : ℕ} → Takes code lower higher value
 takes-chosen (takes-lower one is) = rw (one, is)
 takes-chosen (takes-higher two is) = rw (two, is)
 
+takes : {code lower higher : ℕ} → (code ≡ 1) ⊎ (code ≡ 2) → Takes code lower higher (chosen code lower higher)
+takes (inl one) = takes-lower one (rw one)
+takes (inr two) = takes-higher two (rw two)
+
 code-within : {code : ℕ} → (code ≡ 1) ⊎ (code ≡ 2) → (1 ≤ code) × (code ≤ 2)
 code-within (inl one) = (omega arith, omega arith)
 code-within (inr two) = (omega arith, omega arith)
@@ -174,7 +109,7 @@ coded-at n m h is = record { a-most = h; b-most = h; c-code = is; d-code = is; e
 
 -- Four by codes.
 module _ (u : Uncertainties) where
-  both-most : Answer.bothEntered u ≡ true → (u .a ≤ 100) × (u .b ≤ 100)
+  both-most : bothEntered u ≡ true → (u .a ≤ 100) × (u .b ≤ 100)
   both-most t =
       let both = both-true (isPercentage (u .a)) (isPercentage (u .b)) t in
       (leb-true (u .a) 100 (both .0), leb-true (u .b) 100 (both .1))
@@ -197,9 +132,9 @@ module _ (u : Uncertainties) where
   coded-when z = let t = Answer.when-coded u z in coded-if (both-most (t .0)) (t .1)
 
   pub codes-18 : ((u .a ≤ 100) × (u .b ≤ 100) → ⊥) → byCodes u ≡ record { refusal = 18; factor = 0 }
-  codes-18 bad = by-test (Answer.bothEntered u) refl
+  codes-18 bad = by-test (bothEntered u) refl
     where
-      by-test : (t : Bool) → Answer.bothEntered u ≡ t → byCodes u ≡ record { refusal = 18; factor = 0 }
+      by-test : (t : Bool) → bothEntered u ≡ t → byCodes u ≡ record { refusal = 18; factor = 0 }
       by-test true t = absurd (bad (both-most t))
       by-test false t = sym (Answer.entered-over u t)
 
@@ -258,6 +193,18 @@ module _ (u : Uncertainties) where
         ← takes-chosen (t .g-chosen),
       )
 
+  pub codes-table : Coded u → ByTable u (chosenBy u)
+  unfolding chosenBy
+  codes-table h =
+      record {
+        a-entered = refl;
+        b-entered = refl;
+        c-chosen = takes (h .c-code);
+        d-chosen = takes (h .d-code);
+        e-chosen = takes (h .e-code);
+        g-chosen = takes (h .g-code);
+      }
+
   module _ (values : Uncertainties) (z : byCodes u .refusal ≡ 0) (t : ByTable u values) where
     pub codes-chosen : byCodes u ≡ byPercentages values
     codes-chosen = rw (by-table values t) (chosen-is (coded-when z))
@@ -285,10 +232,18 @@ at-most-follows u u′ u″ h k =
 pub factor-falls : (u u′ : Uncertainties) → AtMost u u′ → byPercentages u′ .factor ≤ byPercentages u .factor
 factor-falls u u′ h =
     elim (ℕ-discrete (byPercentages u′ .refusal) 0) [
-      | yes z ↦ let smaller = factor-where u .1 (at-most-follows u u′ Laws.allFull h (factor-where u′ .0 z)) in
+      | yes z ↦ let smaller = factor-where u .1 (at-most-follows u u′ allFull h (factor-where u′ .0 z)) in
           rw (factor-is u′ z, factor-is u smaller) (Laws.falls-as-S-rises (squaresOf u) (squaresOf u′) (Laws.squares-rise u u′ h))
-      | no z ↦ rw (Answer.none-entered u′ z) zero-le
+      | no z ↦ rw (factor-18 u′ (λ h. z (factor-where u′ .1 h))) zero-le
     ]
+
+-- A call by codes that is not accepted has the factor 0, by whichever refusal.
+none-coded : (u : Uncertainties) → (byCodes u .refusal ≡ 0 → ⊥) → byCodes u .factor ≡ 0
+none-coded u z = by-test (bothEntered u) refl
+  where
+    by-test : (t : Bool) → bothEntered u ≡ t → byCodes u .factor ≡ 0
+    by-test true t = let both = both-most u t in rw (codes-19 u (both .0) (both .1) (λ h. z (codes-where u .1 h)))
+    by-test false t = rw (sym (Answer.entered-over u t))
 
 pub codes-fall : (u u′ : Uncertainties) → byCodes u .refusal ≡ 0 → AtMost u u′ → byCodes u′ .factor ≤ byCodes u .factor
 codes-fall u u′ z h =
@@ -296,7 +251,7 @@ codes-fall u u′ z h =
       | yes z′ ↦ let k = coded-when u z in
           let k′ = coded-when u′ z′ in
           rw (chosen-is u k, chosen-is u′ k′) (factor-falls (chosenBy u) (chosenBy u′) (chosen-less u u′ k k′ h))
-      | no z′ ↦ rw (Answer.none-coded u′ z′) zero-le
+      | no z′ ↦ rw (none-coded u′ z′) zero-le
     ]
 
 pub factor-86 : byPercentages (entering 10 10 5 0 0 5) ≡ record { refusal = 0; factor = 86 }

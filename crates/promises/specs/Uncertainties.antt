@@ -9,7 +9,7 @@ use native.Mathlib.Omega.{arith}
 use lib.Dec.{lit<}
 use Rattle.numbers.specs.Fraction.{Fraction, over, whole, _⊕_, _⊗_, _≼_, _≺_, _≈_, floor}
 use Rattle.record.specs.Ranges.{isFactor}
-use Rattle.uncertainty.specs.Uncertainty.{entering, AtMost}
+use Rattle.uncertainty.specs.Uncertainty.{allFull, AtMost}
 use Rattle.uncertainty.specs.declared.Uncertainties.{Uncertainties}
 
 -- A percentage as a fraction, squared.
@@ -34,16 +34,16 @@ module _ (n m : ℕ) (above : 0 < m) where
 
 -- p = floor(100 φ) at the V whose square this is:
 pub record EquationFour (square : Fraction) (p : ℕ) : Type 0 where
-  -- literally where V is a fraction;
+  -- literally so where V is a fraction;
   pub at-root : (n m : ℕ) (above : 0 < m) → v² n m above ≈ square → p ≡ floor (whole 100 ⊗ φ n m above)
-  -- where it is none, p is at most 100 φ for every v at or below V,
+  -- and in any case p is at most 100 φ for every v at or below V,
   pub below-root : (n m : ℕ) (above : 0 < m) → v² n m above ≼ square → whole p ≼ whole 100 ⊗ φ n m above
   -- and p + 1 is above 100 φ for every v at or above V.
   pub above-root : (n m : ℕ) (above : 0 < m) → square ≼ v² n m above → whole 100 ⊗ φ n m above ≺ whole (p + 1)
 
 -- 'six whole percentages a, b, c, d, e, g, each 0 to 100'
 abbrev pub Entered : Uncertainties → Type 0
-Entered u = AtMost u (entering 100 100 100 100 100 100)
+Entered u = AtMost u allFull
 
 -- 'code 1 takes the lower value, 2 the higher'
 pub data Takes (code lower higher value : ℕ) : Type 0 where
@@ -68,7 +68,7 @@ pub record Coded (u : Uncertainties) : Type 0 where
   pub e-code : (u .e ≡ 1) ⊎ (u .e ≡ 2)
   pub g-code : (u .g ≡ 1) ⊎ (u .g ≡ 2)
 
--- The factor p of six percentages: equation (4) rounded down, from a least to a most one, and allowed in a record, so that 0 is none.
+-- The factor p of six percentages: equation (4) rounded down, from a least to a most one, and allowed in a record, so never 0.
 pub record Determined (u : Uncertainties) (least p most : ℕ) : Type 0 where
   pub equation-four : EquationFour (V² u) p
   pub at-least : least ≤ p

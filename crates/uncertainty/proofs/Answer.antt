@@ -1,6 +1,6 @@
 -- The answers by what was tested: each refusal where those ahead of it are not there, and the factor where none is; and what they then say.
-use mathlib.Core.Path.{_≡_, refl, sym, _∙_}
-use mathlib.Core.Bool.{Bool, true, false, cond, _&&_}
+use mathlib.Core.Path.{_≡_, refl}
+use mathlib.Core.Bool.{Bool, true, false, cond}
 use mathlib.Core.List.{List}
 use Prim.Native.Nat.{ℕ, zero, suc, _≤_}
 use native.Mathlib.Omega.{arith}
@@ -8,7 +8,7 @@ use borrow.Author.Tests.{ne-eqb, le-leb, not-false}
 use lib.Dec.{eqb, lit≤}
 use Rattle.numbers.specs.Fault.{Fault, firstOf}
 use Rattle.numbers.proofs.Fault.{clear}
-use Rattle.uncertainty.specs.Uncertainty.{isPercentage, arePercentages, squaresOf, factorFor, areCodes, chosen, chosenBy, percentageFaults, codeFaults, noFactor, unless, byPercentages, byCodes}
+use Rattle.uncertainty.specs.Uncertainty.{arePercentages, squaresOf, factorFor, areCodes, chosen, chosenBy, bothEntered, percentageFaults, codeFaults, noFactor, unless, byPercentages, byCodes}
 use Rattle.uncertainty.specs.declared.Uncertainties.{Uncertainties}
 use Rattle.uncertainty.specs.declared.ModelFactor.{ModelFactor}
 
@@ -22,15 +22,11 @@ module _ (u : Uncertainties) where
   unfolding byPercentages percentageFaults
   worked-out t is = simp (t, is)
 
-  -- whether a and b are entered as percentages
-  abbrev pub bothEntered : Bool
-  bothEntered = isPercentage (u .a) && isPercentage (u .b)
-
-  pub entered-over : bothEntered ≡ false → noFactor 18 ≡ byCodes u
+  pub entered-over : bothEntered u ≡ false → noFactor 18 ≡ byCodes u
   unfolding byCodes codeFaults
   entered-over t = simp t
 
-  module _ (t : bothEntered ≡ true) where
+  module _ (t : bothEntered u ≡ true) where
     pub not-coded : areCodes u ≡ false → noFactor 19 ≡ byCodes u
     unfolding byCodes codeFaults
     not-coded s = simp (t, s)
@@ -58,11 +54,11 @@ module _ (u : Uncertainties) where
       let none = none-there (codeFaults u) (byPercentages (chosenBy u)) z in
       (not-false _ (clear 18 (codeFaults u) refl none), not-false _ (clear 19 (codeFaults u) refl none))
 
--- What holds of both values holds of the one that is chosen.
-pub chosen-either : (P : ℕ → Type 0) (code : ℕ) {lower higher : ℕ} → P lower → P higher → P (chosen code lower higher)
-chosen-either P code {lower} {higher} low high = by-test (eqb code 1)
+-- Chosen values are percentages, so that a choice is refused for its codes alone.
+small : (code : ℕ) {lower higher : ℕ} → lower ≤ 100 → higher ≤ 100 → chosen code lower higher ≤ 100
+small code {lower} {higher} low high = by-test (eqb code 1)
   where
-    by-test : (b : Bool) → P (cond b lower higher)
+    by-test : (b : Bool) → cond b lower higher ≤ 100
     by-test true = low
     by-test false = high
 
@@ -70,29 +66,8 @@ pub all-entered : (u : Uncertainties) → bothEntered u ≡ true → u .c ≤ 10
 unfolding arePercentages
 all-entered u t hc hd he hg = simp (t, le-leb (u .c) 100 hc, le-leb (u .d) 100 hd, le-leb (u .e) 100 he, le-leb (u .g) 100 hg)
 
--- Chosen values are percentages, so that a choice is refused for its codes alone.
-module _ (u : Uncertainties) where
-  pub chosen-entered : bothEntered u ≡ true → arePercentages (chosenBy u) ≡ true
-  unfolding chosenBy
-  chosen-entered t =
-      all-entered (chosenBy u) t (small (u .c) (lit≤ tt) (lit≤ tt)) (small (u .d) (lit≤ tt) (lit≤ tt))
-      (small (u .e) (lit≤ tt) (lit≤ tt)) (small (u .g) (lit≤ tt) (lit≤ tt))
-    where
-      small : (code : ℕ) {lower higher : ℕ} → lower ≤ 100 → higher ≤ 100 → chosen code lower higher ≤ 100
-      small code = chosen-either (λ x. x ≤ 100) code
-
-  -- With a refusal the factor is 0.
-  pub none-entered : (byPercentages u .refusal ≡ 0 → ⊥) → byPercentages u .factor ≡ 0
-  none-entered bad = by-test (arePercentages u) refl
-    where
-      by-test : (t : Bool) → arePercentages u ≡ t → byPercentages u .factor ≡ 0
-      by-test true t = absurd (bad (rw (sym (worked-out u t refl))))
-      by-test false t = rw (sym (percentage-over u t))
-
-  pub none-coded : (byCodes u .refusal ≡ 0 → ⊥) → byCodes u .factor ≡ 0
-  none-coded bad = by-test (bothEntered u) refl (areCodes u) refl
-    where
-      by-test : (t : Bool) → bothEntered u ≡ t → (s : Bool) → areCodes u ≡ s → byCodes u .factor ≡ 0
-      by-test false t s e = rw (sym (entered-over u t))
-      by-test true t false e = rw (sym (not-coded u t e))
-      by-test true t true e = absurd (bad (rw (sym (as-chosen u t e)) (rw (sym (worked-out (chosenBy u) (chosen-entered t) refl)))))
+pub chosen-entered : (u : Uncertainties) → bothEntered u ≡ true → arePercentages (chosenBy u) ≡ true
+unfolding chosenBy
+chosen-entered u t =
+    all-entered (chosenBy u) t (small (u .c) (lit≤ tt) (lit≤ tt)) (small (u .d) (lit≤ tt) (lit≤ tt))
+    (small (u .e) (lit≤ tt) (lit≤ tt)) (small (u .g) (lit≤ tt) (lit≤ tt))

@@ -7,7 +7,7 @@ use native.Mathlib.Nat.{zero-mul, mul-le-mul, mul-le-mul-left, le-trans, eq-or-l
 use native.Mathlib.Omega.{arith}
 use borrow.Author.Tests.{leb-true, leb-false, le-leb}
 use Rattle.numbers.proofs.Eight.{both-true, three-true}
-use Rattle.uncertainty.specs.Uncertainty.{entering, AtMost, isPercentage, arePercentages, squaresOf, mostSquares, allows, greatest, factorFor}
+use Rattle.uncertainty.specs.Uncertainty.{allFull, AtMost, isPercentage, arePercentages, squaresOf, mostSquares, allows, greatest, factorFor}
 use Rattle.uncertainty.specs.declared.Uncertainties.{Uncertainties}
 
 module _ (test : ℕ → Bool) where
@@ -107,16 +107,13 @@ squares-rise u u′ h =
     )
 
 -- Six percentages are at most 100 each, so S has its most where all are 100.
-abbrev pub allFull : Uncertainties
-allFull = entering 100 100 100 100 100 100
-
 module _ (u : Uncertainties) where
   pub each-at-most : arePercentages u ≡ true → AtMost u allFull
   unfolding arePercentages
   each-at-most t =
-      let five = isPercentage (u .a) && isPercentage (u .b) && isPercentage (u .c) && isPercentage (u .d) in
-      let sixth = both-true (five && isPercentage (u .e)) (isPercentage (u .g)) t in
-      let fifth = both-true five (isPercentage (u .e)) (sixth .0) in
+      let four = isPercentage (u .a) && isPercentage (u .b) && isPercentage (u .c) && isPercentage (u .d) in
+      let sixth = both-true (four && isPercentage (u .e)) (isPercentage (u .g)) t in
+      let fifth = both-true four (isPercentage (u .e)) (sixth .0) in
       let fourth = both-true (isPercentage (u .a) && isPercentage (u .b) && isPercentage (u .c)) (isPercentage (u .d)) (fifth .0) in
       let three = three-true (isPercentage (u .a)) (isPercentage (u .b)) (isPercentage (u .c)) (fourth .0) in
       record {

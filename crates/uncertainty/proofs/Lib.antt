@@ -1,3 +1,3 @@
 pub mod Laws
 pub mod Answer
-pub mod Beside
+pub mod Rule

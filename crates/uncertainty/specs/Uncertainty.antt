@@ -12,6 +12,10 @@ use Rattle.uncertainty.specs.declared.ModelFactor.{ModelFactor}
 abbrev pub entering : (a b c d e g : ℕ) → Uncertainties
 entering a b c d e g = record { a = a; b = b; c = c; d = d; e = e; g = g }
 
+-- 100 percent of each.
+abbrev pub allFull : Uncertainties
+allFull = entering 100 100 100 100 100 100
+
 -- Each of six is at most the same of six others.
 pub record AtMost (u u′ : Uncertainties) : Type 0 where
   pub most-a : u .a ≤ u′ .a
@@ -60,9 +64,13 @@ areCodes u = isCode (u .c) && isCode (u .d) && isCode (u .e) && isCode (u .g)
 abbrev pub chosen : (code lower higher : ℕ) → ℕ
 chosen code lower higher = cond (eqb code 1) lower higher
 
--- from c 5 or 15, d 0 or 5, e 0 or 50, g 5 or 20; a and b are entered as percentages.'
+-- from c 5 or 15, d 0 or 5, e 0 or 50, g 5 or 20;
 unfoldable pub chosenBy : Uncertainties → Uncertainties
 chosenBy u = entering (u .a) (u .b) (chosen (u .c) 5 15) (chosen (u .d) 0 5) (chosen (u .e) 0 50) (chosen (u .g) 5 20)
+
+-- a and b are entered as percentages.'
+abbrev pub bothEntered : Uncertainties → Bool
+bothEntered u = isPercentage (u .a) && isPercentage (u .b)
 
 -- 'Refusals: 18 an entered percentage over 100, 19 a code other than 1 and 2, in that order',
 unfoldable pub percentageFaults : Uncertainties → List Fault
@@ -70,7 +78,7 @@ percentageFaults u = 18 when not (arePercentages u) ∷ []
 
 unfoldable pub codeFaults : Uncertainties → List Fault
 codeFaults u =
-    18 when not (isPercentage (u .a) && isPercentage (u .b))
+    18 when not (bothEntered u)
     ∷ 19 when not (areCodes u)
     ∷ []
 

@@ -2,7 +2,8 @@
 use mathlib.Core.Path.{_≡_, sym, _∙_}
 use mathlib.Core.Bool.{true, _&&_}
 use borrow.Author.Tests.{not-true, not-false}
-use Rattle.uncertainty.proofs.Answer.{bothEntered, entered-over, not-coded, as-chosen}
+use Rattle.uncertainty.specs.Uncertainty.{bothEntered}
+use Rattle.uncertainty.proofs.Answer.{entered-over, not-coded, as-chosen}
 use Rattle.uncertainty.proofs.Uncertainties.by_codes.Statement.{statement}
 use Rattle.uncertainty.proofs.Uncertainties.by_codes.Tie as tie
 
