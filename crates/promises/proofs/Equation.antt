@@ -5,7 +5,7 @@ use native.Mathlib.Nat.{mul-le-mul-right, mul-pos, le-of-eq, le-antisymm}
 use native.Mathlib.Decide.{decLe}
 use native.Mathlib.Omega.{arith}
 use lib.Dec.{lit<}
-use Rattle.numbers.specs.Fraction.{Fraction, over, whole, _⊕_, _⊗_, _≼_, _≺_, _≈_}
+use Rattle.numbers.specs.Fraction.{Fraction, over, whole, _⊕_, _⊗_, _≼_, _≈_}
 use Rattle.numbers.proofs.Fraction.{at-most-trans}
 use Rattle.numbers.proofs.Split.{share-between}
 use Rattle.uncertainty.specs.Uncertainty.{squaresOf, factorFor}

@@ -9,7 +9,7 @@ use native.Mathlib.Omega.{arith}
 use borrow.Author.Tests.{leb-true, le-leb, eqb-true}
 use lib.Dec.{eqb, lit<, lit≤}
 use Rattle.numbers.proofs.Eight.{both-true, three-true, either-true}
-use Rattle.uncertainty.specs.Uncertainty.{entering, allFull, AtMost, isPercentage, arePercentages, squaresOf, allows, factorFor, isCode, areCodes, chosen, chosenBy, bothEntered, percentageFaults, byPercentages, byCodes}
+use Rattle.uncertainty.specs.Uncertainty.{entering, allFull, AtMost, isPercentage, arePercentages, squaresOf, mostSquares, allows, factorFor, isCode, areCodes, chosen, chosenBy, bothEntered, percentageFaults, byPercentages, byCodes}
 use Rattle.uncertainty.specs.declared.Uncertainties.{Uncertainties}
 use Rattle.uncertainty.proofs.Laws
 use Rattle.uncertainty.proofs.Answer
@@ -52,7 +52,7 @@ module _ (u : Uncertainties) where
 
   pub factor-well : byPercentages u .refusal ≡ 0 → Determined u 28 (byPercentages u .factor) 100
   unfolding factorFor allows
-  factor-well z = rw (factor-is z) (determined u 0 60000 zero-le (Laws.squares-most u (Answer.when-entered u z)) (lit< tt))
+  factor-well z = rw (factor-is z) (determined u 0 mostSquares zero-le (Laws.squares-most u (Answer.when-entered u z)) (lit< tt))
 
   pub factor-one : (p : ℕ) → byPercentages u .refusal ≡ 0 → EquationFour (V² u) p → p ≡ byPercentages u .factor
   factor-one p z met =
@@ -70,9 +70,9 @@ takes-chosen : {code lower higher value : ℕ} → Takes code lower higher value
 takes-chosen (takes-lower one is) = rw (one, is)
 takes-chosen (takes-higher two is) = rw (two, is)
 
-takes : {code lower higher : ℕ} → (code ≡ 1) ⊎ (code ≡ 2) → Takes code lower higher (chosen code lower higher)
-takes (inl one) = takes-lower one (rw one)
-takes (inr two) = takes-higher two (rw two)
+takes-the-chosen : {code lower higher : ℕ} → (code ≡ 1) ⊎ (code ≡ 2) → Takes code lower higher (chosen code lower higher)
+takes-the-chosen (inl one) = takes-lower one (rw one)
+takes-the-chosen (inr two) = takes-higher two (rw two)
 
 code-within : {code : ℕ} → (code ≡ 1) ⊎ (code ≡ 2) → (1 ≤ code) × (code ≤ 2)
 code-within (inl one) = (omega arith, omega arith)
@@ -199,10 +199,10 @@ module _ (u : Uncertainties) where
       record {
         a-entered = refl;
         b-entered = refl;
-        c-chosen = takes (h .c-code);
-        d-chosen = takes (h .d-code);
-        e-chosen = takes (h .e-code);
-        g-chosen = takes (h .g-code);
+        c-chosen = takes-the-chosen (h .c-code);
+        d-chosen = takes-the-chosen (h .d-code);
+        e-chosen = takes-the-chosen (h .e-code);
+        g-chosen = takes-the-chosen (h .g-code);
       }
 
   module _ (values : Uncertainties) (z : byCodes u .refusal ≡ 0) (t : ByTable u values) where

@@ -1,6 +1,6 @@
 -- The loop goes down from 100 and passes over what is not allowed, so what it stops at is the greatest that is.
 use mathlib.Core.Path.{_≡_, sym, _∙_}
-use mathlib.Core.Bool.{true, false}
+use mathlib.Core.Bool.{false}
 use Prim.Native.Nat.{_≤_, _<_}
 use borrow.Author.Tests.{not-true, not-false}
 use borrow.Author.Needs.{needs}
