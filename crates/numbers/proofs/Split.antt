@@ -1,7 +1,7 @@
 -- a × b / c by parts, once over the divisor: a is split by c, and only the remainder's product is divided.
 use mathlib.Core.Path.{_≡_, _∙_, sym, ap}
 use Prim.Native.Nat.{ℕ, _+_, _-_, _*_, _/_, _%_, _^_, _≤_, _<_}
-use native.Mathlib.Nat.{div-add-mod', mul-add-div-right, mul-le-mul-left, mul-le-mul-right, mod-lt, div-le-of-le-mul, lt-of-le-of-lt, le-trans, div-mul-le-self, le-antisymm, le-div-iff-mul-le, div-lt-iff-lt-mul}
+use native.Mathlib.Nat.{div-add-mod', mul-add-div-right, mul-le-mul-left, mul-le-mul-right, mod-lt, div-le-of-le-mul, lt-of-le-of-lt, le-trans, div-mul-le-self, le-div-iff-mul-le}
 use native.Mathlib.Omega.{arith}
 
 pub split : (a b c : ℕ) → 0 < c → a / c * b + a % c * b / c ≡ a * b / c
@@ -20,12 +20,6 @@ share-most a b c h = div-le-of-le-mul c (omega (arith, mul-le-mul-left a h))
 -- More is, divided and rounded down, not less.
 pub share-rises : (a b c : ℕ) → 0 < c → a ≤ b → a / c ≤ b / c
 share-rises a b c pos h = le-div-iff-mul-le pos .1 (le-trans (div-mul-le-self a c) h)
-
--- A number p with p × c ≤ a < (p + 1) × c is a / c rounded down.
-pub share-between : (a c p : ℕ) → 0 < c → p * c ≤ a → a < (p + 1) * c → p ≡ a / c
-share-between a c p pos low high =
-    let less : a / c < p + 1 = div-lt-iff-lt-mul pos .1 high in
-    le-antisymm (le-div-iff-mul-le pos .1 low) (omega arith)
 
 -- A part of what is divided, taken by rounding down with it and without it, is less than 1 from exact, both ways.
 pub share-near : (a b c : ℕ) → 0 < c → a ≤ b → (b < (b / c - a / c) * c + a + c) × ((b / c - a / c) * c + a < b + c)

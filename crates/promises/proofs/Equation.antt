@@ -1,13 +1,12 @@
 -- Equations (3) and (4) of source 000: the rule of request d over whole numbers (uncertainty), carried to fractions.
 use mathlib.Core.Path.{_≡_, refl, sym, ap}
 use Prim.Native.Nat.{ℕ, _+_, _-_, _*_, _≤_, _<_}
-use native.Mathlib.Nat.{mul-le-mul-right, mul-pos, le-of-eq, le-antisymm}
+use native.Mathlib.Nat.{mul-le-mul-right, mul-pos, le-of-eq, le-antisymm, div-eq-of-lt-le}
 use native.Mathlib.Decide.{decLe}
 use native.Mathlib.Omega.{arith}
 use lib.Dec.{lit<}
 use Rattle.numbers.specs.Fraction.{Fraction, over, whole, _⊕_, _⊗_, _≼_, _≈_}
 use Rattle.numbers.proofs.Fraction.{at-most-trans}
-use Rattle.numbers.proofs.Split.{share-between}
 use Rattle.uncertainty.specs.Uncertainty.{squaresOf, factorFor}
 use Rattle.uncertainty.specs.declared.Uncertainties.{Uncertainties}
 use Rattle.uncertainty.proofs.Laws
@@ -39,7 +38,7 @@ module _ (S : ℕ) (square : Fraction) (is : square ≈ over S 10000 (lit< tt)) 
   equation-four =
       record {
         at-root = λ n m above h.
-            share-between _ _ p (omega arith) (omega (arith, below n m above (le-of-eq h))) (omega (arith, beyond n m above (le-of-eq (sym h))));
+            sym (div-eq-of-lt-le _ (omega (arith, below n m above (le-of-eq h))) (omega (arith, beyond n m above (le-of-eq (sym h)))));
         below-root = λ n m above h. omega (arith, below n m above h);
         above-root = λ n m above h. omega (arith, beyond n m above h);
       }
