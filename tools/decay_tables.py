@@ -1,9 +1,13 @@
 #!/usr/bin/env python3
-"""Works the two decay tables out from exact fractions, by the rule of document 01, "The decay table".
+"""Works the decay table out from exact fractions, by the rule of document 01, "The decay table".
 
-  decay_tables.py               prints the two Rattle constants, laid out as rt fmt lays them out
-  decay_tables.py --check FILE  compares them with those that stand in FILE; exit status 1 where they differ
+  decay_tables.py               prints the yearly half as a Rattle constant, laid out as rt fmt lays it out
+  decay_tables.py --check FILE  compares it with that in FILE, where no monthly half should stand; exit status 1 where
+                                FILE differs
+
+Both halves are worked out either way: it is an error where the rule does not fit exactly one number.
 """
+import re
 import sys
 from fractions import Fraction
 from math import floor
@@ -11,7 +15,6 @@ from math import floor
 BILLION = 10**9
 RATES = range(1, 401)  # thousandths a year
 PARTS = {1: 1000, 2: 12000}  # by kind: x is the rate over this number
-NAMES = {1: "YEARLY", 2: "MONTHLY"}
 
 
 def series(x, n):
@@ -29,42 +32,49 @@ def entry(kind, rate):
     low, high = BILLION * series(x, 15), BILLION * series(x, 14)
     fitting = [D for D in range(floor(high) - 1, floor(low) + 2) if D <= low and high < D + 1]
     if len(fitting) != 1:
-        raise ValueError(f"{NAMES[kind]}, rate {rate}: the rule fits {fitting}, not one number")
+        raise ValueError(f"kind {kind}, rate {rate}: the rule fits {fitting}, not one number")
     return fitting[0]
 
 
-def block(kind):
-    """The lines of one table as a Rattle constant."""
-    head = f"const {NAMES[kind]}: [u32; {len(RATES)}] = ["
-    return [head] + [f"    {entry(kind, rate)}," for rate in RATES] + ["];"]
+def block(entries):
+    """The lines of the yearly half as a Rattle constant."""
+    return [f"const YEARLY: [u32; {len(entries)}] = ["] + [f"    {D}," for D in entries] + ["];"]
 
 
-def difference(wanted, path, lines):
-    """What keeps the lines of a source from holding the wanted block, or None where they hold it."""
-    if lines.count(wanted[0]) != 1:
-        return f"{path}: the line '{wanted[0]}' stands {lines.count(wanted[0])} times, not once"
-    start = lines.index(wanted[0])
-    for i, line in enumerate(wanted):
-        found = lines[start + i] if start + i < len(lines) else "the end of the file"
+def starts(name, lines):
+    """The places of the lines that begin a constant of this name."""
+    return [at for at, line in enumerate(lines) if re.match(rf"\s*(pub )?const {name}\b", line)]
+
+
+def differences(wanted, path, lines):
+    """What keeps the lines of a source from holding the wanted block once, and no monthly one."""
+    for at in starts("MONTHLY", lines):
+        yield f"{path}:{at + 1}: '{lines[at].strip()}' stands where no monthly half should"
+    yearly = starts("YEARLY", lines)
+    if len(yearly) != 1:
+        yield f"{path}: a constant YEARLY stands {len(yearly)} times, not once"
+        return
+    for at, line in enumerate(wanted, yearly[0]):
+        found = lines[at] if at < len(lines) else "the end of the file"
         if found != line:
-            return f"{path}:{start + i + 1}: '{found.strip()}' stands where '{line.strip()}' should"
-    return None
+            yield f"{path}:{at + 1}: '{found.strip()}' stands where '{line.strip()}' should"
+            return
 
 
 def main(words):
-    blocks = [block(kind) for kind in NAMES]
+    entries = {kind: [entry(kind, rate) for rate in RATES] for kind in PARTS}
+    wanted = block(entries[1])
     if not words:
-        print("\n\n".join("\n".join(lines) for lines in blocks))
+        print("\n".join(wanted))
         return 0
     if len(words) != 2 or words[0] != "--check":
         print(__doc__, file=sys.stderr)
         return 2
     with open(words[1], encoding="utf-8") as source:
-        lines = source.read().split("\n")
-    found = [difference(wanted, words[1], lines) for wanted in blocks]
-    for message in filter(None, found):
+        found = list(differences(wanted, words[1], source.read().split("\n")))
+    for message in found:
         print(message)
-    return 1 if any(found) else 0
+    return 1 if found else 0
 
 
 if __name__ == "__main__":

@@ -2,4 +2,5 @@ pub mod Every
 pub mod Series
 pub mod Sums
 pub mod Rule
+pub mod ByMonth
 pub mod Laws

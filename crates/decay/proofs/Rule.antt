@@ -13,6 +13,7 @@ use lib.ListN.{length, getD, replicate, List·getD-eq-default}
 use Rattle.numbers.specs.Fraction.{Fraction, over, whole, _⊗_, _≼_, _≺_, total}
 use Rattle.numbers.proofs.Fraction.{at-most-trans, at-most-below, less-with, times-at-most}
 use Rattle.decay.specs.Series.{factorial, term, E, Encloses, roundedDown, isKind, exponent, entryOf, entriesFrom, tableOf, atRate}
+use Rattle.decay.specs.ByMonth.{parts, bracketOf, outwards, leftOf}
 use Rattle.decay.proofs.Series.{odd-term}
 use Rattle.decay.proofs.Sums.{alike, bottom-pos, summed, sum-is}
 use Rattle.decay.proofs.Every.{everyFrom, upTo, number-at}
@@ -106,9 +107,17 @@ yearly : (r : ℕ) → 1 ≤ r → r ≤ 400 → Entry r 1000 (omega arith) (rou
 unfolding rate? down down? within? low? high? factorial
 yearly = every-rate 1000 (omega arith) tt
 
+-- By month what is worked out passes the test at every rate.
+module _ (h : 0 < 12000) where
+  worked? : ℕ → Bool
+  worked? r = encloses? r 12000 h (leftOf r / parts)
+
+  pub worked-passes : (r : ℕ) → 1 ≤ r → r ≤ 400 → T (encloses? r 12000 h (leftOf r / parts))
+  unfolding worked? encloses? within? low? high? factorial leftOf outwards bracketOf
+  worked-passes = number-at worked? 400 tt
+
 monthly : (r : ℕ) → 1 ≤ r → r ≤ 400 → Entry r 12000 (omega arith) (roundedDown (over r 12000 (omega arith)))
-unfolding rate? down down? within? low? high? factorial
-monthly = every-rate 12000 (omega arith) tt
+monthly r low high = here r 12000 _ (leftOf r / parts) (worked-passes _ r low high)
 
 -- What is known of every entry, once over the kind.
 pub record Listed (kind rate D : ℕ) : Type 0 where
@@ -160,8 +169,9 @@ module _ (kind d : ℕ) (h : 0 < d) (is : (rate : ℕ) → exponent kind rate �
 pub yearly-table : (table : List ℕ) → T (everyFrom (λ r D. encloses? r 1000 (omega arith) D) 1 table) → length table ≡ 400 → table ≡ tableOf 1
 yearly-table = all-are 1 1000 (omega arith) (λ r. refl) refl
 
-pub monthly-table : (table : List ℕ) → T (everyFrom (λ r D. encloses? r 12000 (omega arith) D) 1 table) → length table ≡ 400 → table ≡ tableOf 2
-monthly-table = all-are 2 12000 (omega arith) (λ r. refl) refl
+-- By month one number is tested by itself.
+pub monthly-entry : (rate D : ℕ) → 1 ≤ rate → rate ≤ 400 → T (encloses? rate 12000 (omega arith) D) → D ≡ entryOf 2 rate
+monthly-entry = entry-is 2 12000 (omega arith) (λ r. refl) refl
 
 -- Any other kind has zeros.
 zeros : (kind rate many : ℕ) → isKind kind ≡ false → replicate many 0 ≡ entriesFrom kind rate many
@@ -174,13 +184,13 @@ unfolding tableOf
 no-table kind k = zeros kind 1 400 k
 
 -- The look-up in the table of a kind is its entry.
-entry-at : (kind rate many i : ℕ) → i < many → getD (entriesFrom kind rate many) i 0 ≡ entryOf kind (rate + i)
+pub entry-at : (kind rate many i : ℕ) → i < many → getD (entriesFrom kind rate many) i 0 ≡ entryOf kind (rate + i)
 unfolding entriesFrom
 entry-at kind rate zero i h = absurd (omega arith)
 entry-at kind rate (suc many) zero h = rw (add-zero rate)
 entry-at kind rate (suc many) (suc i) h = rw (add-suc rate i, ← suc-add rate i) (entry-at kind (suc rate) many i (omega arith))
 
-entries-size : (kind rate many : ℕ) → length (entriesFrom kind rate many) ≡ many
+pub entries-size : (kind rate many : ℕ) → length (entriesFrom kind rate many) ≡ many
 unfolding entriesFrom
 entries-size kind rate zero = refl
 entries-size kind rate (suc many) = ap suc (entries-size kind (suc rate) many)

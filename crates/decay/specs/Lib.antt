@@ -1,1 +1,2 @@
 pub mod Series
+pub mod ByMonth

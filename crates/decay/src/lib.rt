@@ -1,5 +1,6 @@
 // The decay table of document 01: what is left of 10^9 parts after one period, for each rate, by year and by month.
 // The ledger looks up the entries of a run once, before its first record.
+mod month;
 mod table;
 
 pub use table::at_rate;
@@ -18,6 +19,9 @@ pub fn is_kind(kind: u8) -> bool
 pub fn entry(kind: u8, rate: u16) -> u32
     ensures { λ r. ⌜ r ≡ entryOf kind rate ⌝ }
 {
-    let table = table::table_of(kind);
-    table::at_rate(&table, rate)
+    match kind {
+        1 => table::yearly(rate),
+        2 => month::monthly(rate),
+        _ => 0,
+    }
 }

@@ -1,17 +1,20 @@
--- The table of the kind, asked for the rate.
-use mathlib.Core.Path.{ap, _∙_}
-use mathlib.Core.List.{List}
+-- Each kind has its own look-up, and no other kind has entries.
+use mathlib.Core.Path.{refl, sym, ap, _∙_}
 use Prim.Native.Nat.{ℕ}
 use borrow.Author.Needs.{needs}
-use Rattle.decay.specs.Series.{atRate}
-use Rattle.decay.proofs.Rule.{looked-up}
+use borrow.Author.Tests.{ne-eqb}
+use Rattle.decay.specs.Series.{entryOf}
 use Rattle.decay.proofs.entry.Statement.{statement}
 use Rattle.decay.proofs.entry.Tie as tie
 
-returns : tie.Need-returns
-returns c =
-    let a = c .before .before .before .args in
-    c .at-rate .ensures ∙ ap (λ (table : List ℕ). atRate table (a .rate)) (c .before .before .table-of .ensures) ∙ looked-up (a .kind) (a .rate)
+returns-3 : tie.Need-returns-3
+unfolding entryOf
+returns-3 c = let none = c .match .rest in simp (ne-eqb _ 1 (none .0 .1), ne-eqb _ 2 (none .1))
 
 pub entry-spec : {M : Type 1} → statement M
-entry-spec = tie.close (tie.spec (λ c κs. search needs) (λ c. search needs) (λ c κs. search needs) returns)
+entry-spec =
+    tie.close
+    (tie.spec (λ c κs. search needs) (λ c κs. search needs)
+    (λ c. c .yearly .ensures ∙ ap (λ (kind : ℕ). entryOf kind (c .before .before .args .rate)) (sym (c .before .match .keys1)))
+    (λ c. c .monthly .ensures ∙ ap (λ (kind : ℕ). entryOf kind (c .before .before .args .rate)) (sym (c .before .match .keys2)))
+    returns-3)

@@ -1,0 +1,96 @@
+// The entries by month, each worked out from the series in whole numbers when it is looked up: request e of document 02.
+ghost use mathlib.Core.Path.{_≡_};
+ghost use Prim.Native.Nat.{_+_, _≤_, _<_};
+ghost use Rattle.decay.specs.Series.{entryOf, tableOf};
+ghost use Rattle.decay.specs.ByMonth.{allParts, bracketOf, leftOf, filledTo};
+
+// A billionth in parts, and the whole in them.
+const PARTS: u64 = 10_000_000;
+
+const ALL: u64 = 1_000_000_000 * PARTS;
+
+// The terms of the series behind its first, and what x is the rate over.
+const TERMS: u64 = 5;
+
+const RATE_OVER: u64 = 12_000;
+
+// Answers what a bracket of the series comes to, by what the one within it has left.
+fn bracket(rate: u64, n: u64, left: u64) -> u64
+    requires { ⌜ (rate ≤ 400) × (0 < n) × (n ≤ 5) × (left ≤ allParts) ⌝ }
+    ensures { λ r. ⌜ r ≡ bracketOf rate n left ⌝ }
+{
+    ALL - left * rate / (RATE_OVER * n)
+}
+
+// Answers what a month leaves of the whole.
+fn left_after_a_month(rate: u64) -> u64
+    requires { ⌜ rate ≤ 400 ⌝ }
+    ensures { λ r. ⌜ r ≡ leftOf rate ⌝ }
+{
+    let mut left = ALL;
+    let mut n = TERMS;
+    while n > 0 {
+        left = bracket(rate, n, left);
+        n -= 1;
+    }
+    left
+}
+
+// Answers the entry of a rate by month, and 0 for a rate that the table does not have.
+pub(crate) fn monthly(rate: u16) -> u32
+    ensures { λ r. ⌜ r ≡ entryOf 2 rate ⌝ }
+{
+    if rate == 0 {
+        return 0;
+    }
+    if rate > 400 {
+        return 0;
+    }
+    (left_after_a_month(rate as u64) / PARTS) as u32
+}
+
+// Fills five more entries in.
+fn fill_five(table: &mut [u32; 400], from: usize)
+    requires { ⌜ from + 5 ≤ 400 ⌝ }
+    requires { ⌜ now table ≡ filledTo from ⌝ }
+    ensures { λ r. ⌜ now (table .exit) ≡ filledTo (from + 5) ⌝ }
+{
+    for i in 0..5 {
+        table[from + i] = monthly((from + i) as u16 + 1);
+    }
+}
+
+// Fills forty more entries in.
+fn fill_forty(table: &mut [u32; 400], from: usize)
+    requires { ⌜ from + 40 ≤ 400 ⌝ }
+    requires { ⌜ now table ≡ filledTo from ⌝ }
+    ensures { λ r. ⌜ now (table .exit) ≡ filledTo (from + 40) ⌝ }
+{
+    fill_five(table, from);
+    fill_five(table, from + 5);
+    fill_five(table, from + 10);
+    fill_five(table, from + 15);
+    fill_five(table, from + 20);
+    fill_five(table, from + 25);
+    fill_five(table, from + 30);
+    fill_five(table, from + 35);
+}
+
+// Answers the table by month. Its places are written out, so that the rates are known before the program runs, and of those that are
+// looked up by a known rate the entry alone is left.
+pub(crate) fn monthly_table() -> [u32; 400]
+    ensures { λ r. ⌜ r ≡ tableOf 2 ⌝ }
+{
+    let mut table = [0u32; 400];
+    fill_forty(&mut table, 0);
+    fill_forty(&mut table, 40);
+    fill_forty(&mut table, 80);
+    fill_forty(&mut table, 120);
+    fill_forty(&mut table, 160);
+    fill_forty(&mut table, 200);
+    fill_forty(&mut table, 240);
+    fill_forty(&mut table, 280);
+    fill_forty(&mut table, 320);
+    fill_forty(&mut table, 360);
+    table
+}
