@@ -1,12 +1,14 @@
-/* Runs one peer, or another entry of the library, over the first records of a monthly file of 1200; or shares a total by
- * the first of 400 samples; or works a correction factor out; or compares what all peers write, and fails where one
- * refuses a record or a total, library and reference differ, two share a total unlike, or a factor is not as expected.
- * Usage: bench PEER COUNT, bench ENTRY COUNT, bench SHARER COUNT or bench WORKER FACTOR, with the number in four digits;
- * bench compare */
+/* Runs one peer, or another entry of the library, over the first records of a monthly file of 1200, or of the same by year;
+ * or shares a total by the first of 400 samples; or works a correction factor out; or looks an entry of the decay table up;
+ * or compares what all peers write, and fails where one refuses a record or a total, library and reference differ, two share
+ * a total or look an entry up unlike, or a factor is not as expected.
+ * Usage: bench PEER COUNT, bench ENTRY COUNT, bench SHARER COUNT, bench WORKER FACTOR or bench FINDER RATE, with the number
+ * in four digits; bench compare */
 #include "doubles.h"
 #include "factors.h"
 #include "inputs.h"
 #include "landfill.h"
+#include "look_ups.h"
 #include "reference.h"
 #include "sorted.h"
 
@@ -15,9 +17,9 @@
 #include <stdlib.h>
 #include <string.h>
 
-enum { RECORDS = 1200, BYTES = 48, PEERS = 5, ENTRIES = 2, EQUATION = 4, MOST_BY_EQUATION = 120 };
+enum { RECORDS = 1200, BYTES = 48, PEERS = 5, ENTRIES = 4, EQUATION = 4, MOST_BY_EQUATION = 120 };
 enum { SAMPLES = 400, TOTAL = 987654321, SHARERS = 3 };
-enum { WORKED = 2, WORKERS = 3 };
+enum { WORKED = 2, WORKERS = 3, FINDERS = 4 };
 
 static uint8_t file[RECORDS * BYTES], out[PEERS][RECORDS * BYTES], text[90 * (RECORDS + 1)];
 static uint8_t samples[SAMPLES * LANDFILL_SAMPLE_BYTES];
@@ -86,14 +88,19 @@ static uint8_t by_listing(const uint8_t *records, size_t records_len, uint8_t *i
     return refusal != 0 || written > sizeof text;
 }
 
-typedef struct {
+static const struct {
     const char *name;
     doubles_run *run;
-} named;
+    uint8_t kind;
+} entries[ENTRIES] = {{"take", by_take, LANDFILL_MONTHLY},
+                      {"listing", by_listing, LANDFILL_MONTHLY},
+                      {"run-by-year", by_library, LANDFILL_YEARLY},
+                      {"take-by-year", by_take, LANDFILL_YEARLY}};
 
-static const named entries[ENTRIES] = {{"take", by_take}, {"listing", by_listing}};
-
-static const named peers[PEERS] = {{"library", by_library},
+static const struct {
+    const char *name;
+    doubles_run *run;
+} peers[PEERS] = {{"library", by_library},
                   {"reference", by_reference},
                   {"exp-each", doubles_exp_each},
                   {"exp-once", doubles_exp_once},
@@ -116,6 +123,15 @@ static const struct {
     uint8_t of[6], factor;
 } worked[WORKED] = {{{10, 10, 5, 0, 0, 5}, 86}, {{100, 100, 100, 100, 100, 100}, 28}};
 
+static const struct {
+    const char *name;
+    look_ups_find *find;
+    uint8_t kind;
+} finders[FINDERS] = {{"entry-by-year", landfill_entry, LANDFILL_YEARLY},
+                      {"entry-by-month", landfill_entry, LANDFILL_MONTHLY},
+                      {"exp-by-year", look_ups_by_exp, LANDFILL_YEARLY},
+                      {"exp-by-month", look_ups_by_exp, LANDFILL_MONTHLY}};
+
 /* Tells whether a peer, or an entry, accepts all of the first records. */
 static int runs(int peer, size_t count)
 {
@@ -127,6 +143,7 @@ static int runs(int peer, size_t count)
 static int enters(int entry, size_t count)
 {
     uint64_t accepted;
+    for (size_t i = 0; i < RECORDS; i++) file[BYTES * i + 2] = entries[entry].kind;
     return entries[entry].run(file, BYTES * count, out[0], sizeof out[0], &accepted) == 0 && accepted == count;
 }
 
@@ -158,6 +175,20 @@ static int all_work_alike(void)
     for (int worker = 0; worker < WORKERS; worker++)
         for (int i = 0; i < WORKED; i++)
             if (!works(worker, worked[i].factor)) return 0;
+    return 1;
+}
+
+/* Tells whether an entry of the decay table is found; for rate 0 there is no call. */
+static int finds(int finder, size_t rate)
+{
+    return rate == 0 || finders[finder].find(finders[finder].kind, (uint16_t)rate) > 0;
+}
+
+static int all_find_alike(void)
+{
+    for (unsigned rate = 0; rate <= 401; rate++)
+        for (uint8_t kind = LANDFILL_YEARLY; kind <= LANDFILL_MONTHLY; kind++)
+            if (landfill_entry(kind, (uint16_t)rate) != look_ups_by_exp(kind, (uint16_t)rate)) return 0;
     return 1;
 }
 
@@ -193,7 +224,7 @@ int main(int words, char **word)
             if (!runs(peer, count)) return 1;
             compare(peer, count);
         }
-        int alike = all_share_alike(3) && all_share_alike(SAMPLES) && all_work_alike();
+        int alike = all_share_alike(3) && all_share_alike(SAMPLES) && all_work_alike() && all_find_alike();
         return alike && memcmp(out[0], out[1], sizeof out[0]) == 0 ? 0 : 1;
     }
     for (int entry = 0; words == 3 && entry < ENTRIES; entry++)
@@ -202,6 +233,8 @@ int main(int words, char **word)
         if (strcmp(word[1], sharers[sharer].name) == 0) return shares(sharer, strtoul(word[2], NULL, 10), masses) ? 0 : 1;
     for (int worker = 0; words == 3 && worker < WORKERS; worker++)
         if (strcmp(word[1], workers[worker].name) == 0) return works(worker, strtoul(word[2], NULL, 10)) ? 0 : 1;
+    for (int finder = 0; words == 3 && finder < FINDERS; finder++)
+        if (strcmp(word[1], finders[finder].name) == 0) return finds(finder, strtoul(word[2], NULL, 10)) ? 0 : 1;
     for (int peer = 0; words == 3 && peer < PEERS; peer++)
         if (strcmp(word[1], peers[peer].name) == 0) return runs(peer, strtoul(word[2], NULL, 10)) ? 0 : 1;
     return 2;

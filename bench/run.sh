@@ -1,7 +1,7 @@
 #!/usr/bin/env bash
-# Measures landfill_run beside four peers in C, landfill_masses beside one and landfill_factor beside two, and prints the
-# tables of docs/PERFORMANCE.md: instructions for each record, ratios, instructions for one call by samples and by
-# uncertainties, how far the figures are apart, and the library's size.
+# Measures landfill_run beside four peers in C, landfill_masses and landfill_entry beside one and landfill_factor beside two,
+# and prints the tables of docs/PERFORMANCE.md: instructions for each record, ratios, instructions for one call by samples,
+# by uncertainties and for one look-up, how far the figures are apart, and the library's size.
 # Usage: bash bench/run.sh [--library FILE | --standin]
 set -eu
 cd "$(dirname "$0")/.."
@@ -76,12 +76,14 @@ awk -v peers="$peers" '
         table(2, 1)
     }' "$target/counts"
 
-# The program's instructions for so many records or samples, or for a factor, those for none taken off.
+# The program's instructions for so many records or samples, or for a factor or a rate, those for none taken off.
 over_none() { echo "$(($($counter "$target/bench" "$1" "$2") - $($counter "$target/bench" "$1" 0000)))"; }
 
-# Other entries of the library on the same 1200 records.
+# Other entries of the library on the same 1200 records, and two on these as years.
+by_entry() { echo "| $1 | $(($(over_none "$2" 1200) / 1200)) |"; }
 printf '\nInstructions for each of 1200 records by other entries:\n\n| Entry | Instructions |\n|---|---|\n'
-for entry in take listing; do echo "| \`landfill_$entry\` | $(($(over_none $entry 1200) / 1200)) |"; done
+for entry in take listing; do by_entry "\`landfill_$entry\`" $entry; done
+for entry in run take; do by_entry "\`landfill_$entry\` by year" $entry-by-year; done
 
 printf '\nInstructions for one call by samples:\n\n| Samples | library | plain C |\n|---|---|---|\n'
 for count in 0003 0400; do echo "| $((10#$count)) | $(over_none masses $count) | $(over_none sorted $count) |"; done
@@ -93,6 +95,13 @@ printf '\nInstructions for one call by uncertainties:\n\n'
 printf '| Uncertainties | Factor | library | doubles | whole numbers |\n|---|---|---|---|---|\n'
 by_uncertainties '10, 10, 5, 0, 0, 5' 0086
 by_uncertainties 'six of 100' 0028
+
+printf '\nInstructions for one look-up:\n\n| Entry | Rate | library | doubles |\n|---|---|---|---|\n'
+for kind in year month; do
+    for rate in 0020 0400; do
+        echo "| by $kind | $((10#$rate)) | $(over_none entry-by-$kind $rate) | $(over_none exp-by-$kind $rate) |"
+    done
+done
 
 cat <<'END'
 
@@ -116,4 +125,4 @@ linked_for() {
 printf '\nSize of the library, in bytes:\n\n| Part | Bytes |\n|---|---|\n'
 sections "$library" | sort -rn | awk '{ print "| `" $2 "` | " $1 " |" }'
 echo "| all | $(total "$library") |"
-echo "| linked for \`landfill_run\` alone | $(linked_for landfill_run) |"
+for entry in run take entry; do echo "| linked for \`landfill_$entry\` alone | $(linked_for "landfill_$entry") |"; done

@@ -26,7 +26,11 @@ def look_ups(rng):
     asked += [(kind, rate) for kind in (0, 1, 2, 3, 255) for rate in (0, 1, 400, 401, 65535)]
     asked += [(rng.choice((1, 2)), rate) for rate in (512, 657, 65136, *(rng.randrange(65536) for _ in range(20)))]
     asked += [(rng.randrange(256), rng.randint(1, 400)) for _ in range(20)]
-    yield from (case("d", little([(kind, 1), (rate, 2)])) for kind, rate in asked)
+    yield from (look_up(kind, rate) for kind, rate in asked)
+
+
+def look_up(kind, rate):
+    return case("d", little([(kind, 1), (rate, 2)]))
 
 
 def worked_figures():
@@ -214,3 +218,8 @@ def base(rng):
     yield from runs_by_rule(rng)
     yield from runs_at_random(rng)
     yield from listings(rng)
+
+
+def every_rate(_rng):
+    """Every rate that can be asked for, with both kinds and with three that are none."""
+    yield from (look_up(kind, rate) for kind in (1, 2, 0, 3, 255) for rate in range(65536))

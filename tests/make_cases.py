@@ -1,13 +1,14 @@
 #!/usr/bin/env python3
 """Writes cases for the program `cases` (docs/CASES.md), and the lines that the reference gives for them.
 
-  make_cases.py [--group base|door|samples|released|months|uncertainty|all|every-sum] [--seed N] [--out DIR]
+  make_cases.py [--group base|door|samples|released|months|uncertainty|all|every-sum|every-rate] [--seed N] [--out DIR]
   make_cases.py --store
   make_cases.py --check
 
 DIR gets cases.bin and cases.txt, and a pair stop-*.bin, stop-*.txt for each way in which input cannot be read.
-Every run with the same seed writes the same bytes; the stored cases are those of all groups with seed 1. The group
-every-sum is not among them: it has a case for each sum of squares that uncertainties come to.
+Every run with the same seed writes the same bytes; the stored cases are those of all groups with seed 1. Two groups
+are not among them: every-sum has a case for each sum of squares that uncertainties come to, every-rate a look-up of
+each rate with each of the kinds 1, 2, 0, 3 and 255.
 --store writes the stored files anew that the reference decides, and says what changed: the stored cases, their
 lines, and what the listing prints for its sample. --check only compares; its status is 1 where one differs.
 """
@@ -18,7 +19,7 @@ import sys
 from itertools import zip_longest
 
 import cases
-from base_cases import base
+from base_cases import base, every_rate
 from cases import case
 from door_cases import door
 from months_cases import months
@@ -32,6 +33,7 @@ GROUPS = {"base": [base], "door": [door], "samples": [samples], "released": [rel
 GROUPS["uncertainty"] = [uncertainty]
 GROUPS["all"] = [cases_of for group in GROUPS.values() for cases_of in group]
 GROUPS["every-sum"] = [every_sum]
+GROUPS["every-rate"] = [every_rate]
 FIRST = case("d", b"\1\1\0")
 STOPS = {
     "header": FIRST + FIRST[:4],

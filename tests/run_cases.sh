@@ -1,6 +1,6 @@
 #!/bin/sh
-# Runs the program `cases` on the small stop-* pairs, on fresh cases and on a file with every sum of squares that
-# uncertainties come to, and compares what it prints with the reference.
+# Runs the program `cases` on the small stop-* pairs, on fresh cases, on a file with every sum of squares that
+# uncertainties come to and on one with every rate, and compares what it prints with the reference.
 #
 #   tests/run_cases.sh [SEED...]        seeds 2 and 3 where none is named
 #
@@ -22,7 +22,9 @@ trap 'rm -rf "$room"' EXIT
 for seed; do
     python3 tests/make_cases.py --seed "$seed" --out "$room/$seed"
 done
-python3 tests/make_cases.py --group every-sum --out "$room/every-sum"
+for group in every-sum every-rate; do
+    python3 tests/make_cases.py --group "$group" --out "$room/$group"
+done
 files=0 differences=0
 for input in "$room/$1"/stop-*.bin "$room"/*/cases.bin; do
     files=$((files + 1))

@@ -56,6 +56,18 @@ def tables():
         check(f"kind {kind} rate {rate}", decay(kind, rate), 0)
 
 
+def in_whole_numbers():
+    """Each entry in whole numbers, every term rounded down; no sum comes within a thousandth of a whole billionth."""
+    parts = 10**30  # of a billionth
+    for (kind, under), rate in product(((1, 1000), (2, 12000)), range(1, 401)):
+        term = total = 10**9 * parts
+        for i in range(1, 16):
+            term = term * rate // (under * i)
+            total += (-1) ** i * term
+        check(f"kind {kind} rate {rate} in whole numbers", decay(kind, rate), total // parts)
+        check(f"kind {kind} rate {rate} off a whole one", parts < 1000 * (total % parts) < 999 * parts, True)
+
+
 def allowed():
     """The table of "One record": every value of every byte, the edges of the wider fields, and the refusal outside."""
     codes = {"kind": 2, "climate": 4, "site_class": 4}  # from 1 up to this
@@ -359,6 +371,7 @@ def main():
     uncertainty_checks.every_byte()
     uncertainty_checks.in_order()
     tables()
+    in_whole_numbers()
     unlikely()
     image()
     rng = random.Random(1)

@@ -39,7 +39,7 @@ static void masses(const struct entries *it, struct side *s)
 static void all_look_ups(void)
 {
     for (unsigned kind = 0; kind <= 255; kind++) {
-        unsigned last = kind <= 3 ? 65535 : 402;
+        unsigned last = kind <= 3 || kind == 255 ? 65535 : 402;
         for (unsigned rate = 0; rate <= last; rate++) {
             given.kind = (uint8_t)kind;
             given.rate = (uint16_t)rate;
