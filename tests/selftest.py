@@ -58,14 +58,14 @@ def tables():
 
 def in_whole_numbers():
     """Each entry in whole numbers, every term rounded down; no sum comes within a thousandth of a whole billionth."""
-    parts = 10**30  # of a billionth
+    fine = 10**30  # a billionth
     for (kind, under), rate in product(((1, 1000), (2, 12000)), range(1, 401)):
-        term = total = 10**9 * parts
+        term = total = 10**9 * fine
         for i in range(1, 16):
             term = term * rate // (under * i)
             total += (-1) ** i * term
-        check(f"kind {kind} rate {rate} in whole numbers", decay(kind, rate), total // parts)
-        check(f"kind {kind} rate {rate} off a whole one", parts < 1000 * (total % parts) < 999 * parts, True)
+        check(f"kind {kind} rate {rate} in whole numbers", decay(kind, rate), total // fine)
+        check(f"kind {kind} rate {rate} off a whole one", fine < 1000 * (total % fine) < 999 * fine, True)
 
 
 def allowed():

@@ -1,13 +1,9 @@
 #!/usr/bin/env python3
-"""Works the decay table out from exact fractions, by the rule of document 01, "The decay table".
+"""Works the entries of the decay table out from exact fractions, by the rule of document 01, "The decay table".
 
-  decay_tables.py               prints the yearly half as a Rattle constant, laid out as rt fmt lays it out
-  decay_tables.py --check FILE  compares it with that in FILE, where no monthly half should stand; exit status 1 where
-                                FILE differs
-
-Both halves are worked out either way: it is an error where the rule does not fit exactly one number.
+  decay_tables.py               prints those by year as a Rattle constant, laid out as rt fmt lays it out
+  decay_tables.py --check FILE  compares it with the one that stands in FILE; exit status 1 where they differ
 """
-import re
 import sys
 from fractions import Fraction
 from math import floor
@@ -36,34 +32,25 @@ def entry(kind, rate):
     return fitting[0]
 
 
-def block(entries):
-    """The lines of the yearly half as a Rattle constant."""
-    return [f"const YEARLY: [u32; {len(entries)}] = ["] + [f"    {D}," for D in entries] + ["];"]
+def block():
+    """The lines of the entries by year as a Rattle constant."""
+    return [f"const YEARLY: [u32; {len(RATES)}] = ["] + [f"    {entry(1, rate)}," for rate in RATES] + ["];"]
 
 
-def starts(name, lines):
-    """The places of the lines that begin a constant of this name."""
-    return [at for at, line in enumerate(lines) if re.match(rf"\s*(pub )?const {name}\b", line)]
-
-
-def differences(wanted, path, lines):
-    """What keeps the lines of a source from holding the wanted block once, and no monthly one."""
-    for at in starts("MONTHLY", lines):
-        yield f"{path}:{at + 1}: '{lines[at].strip()}' stands where no monthly half should"
-    yearly = starts("YEARLY", lines)
-    if len(yearly) != 1:
-        yield f"{path}: a constant YEARLY stands {len(yearly)} times, not once"
-        return
-    for at, line in enumerate(wanted, yearly[0]):
-        found = lines[at] if at < len(lines) else "the end of the file"
+def difference(wanted, path, lines):
+    """What keeps the lines of a source from holding the wanted block, or None where they hold it."""
+    if lines.count(wanted[0]) != 1:
+        return f"{path}: the line '{wanted[0]}' stands {lines.count(wanted[0])} times, not once"
+    start = lines.index(wanted[0])
+    for i, line in enumerate(wanted):
+        found = lines[start + i] if start + i < len(lines) else "the end of the file"
         if found != line:
-            yield f"{path}:{at + 1}: '{found.strip()}' stands where '{line.strip()}' should"
-            return
+            return f"{path}:{start + i + 1}: '{found.strip()}' stands where '{line.strip()}' should"
+    return None
 
 
 def main(words):
-    entries = {kind: [entry(kind, rate) for rate in RATES] for kind in PARTS}
-    wanted = block(entries[1])
+    wanted = block()
     if not words:
         print("\n".join(wanted))
         return 0
@@ -71,9 +58,10 @@ def main(words):
         print(__doc__, file=sys.stderr)
         return 2
     with open(words[1], encoding="utf-8") as source:
-        found = list(differences(wanted, words[1], source.read().split("\n")))
-    for message in found:
-        print(message)
+        lines = source.read().split("\n")
+    found = difference(wanted, words[1], lines)
+    if found:
+        print(found)
     return 1 if found else 0
 
 

@@ -1,6 +1,6 @@
 #!/usr/bin/env bash
 # Holds the look-up of one library to that of another: five kinds, every rate.
-# Usage: bash tests/c/look_ups.sh FILE FILE
+# Usage: bash tests/c/look_ups.sh FILE FILE (archives, by paths from the top of the repository or whole ones; needs GNU od)
 set -eu
 cd "$(dirname "$0")/../.."
 . tests/c/build.sh

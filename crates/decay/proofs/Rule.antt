@@ -13,7 +13,7 @@ use lib.ListN.{length, getD, replicate, List·getD-eq-default}
 use Rattle.numbers.specs.Fraction.{Fraction, over, whole, _⊗_, _≼_, _≺_, total}
 use Rattle.numbers.proofs.Fraction.{at-most-trans, at-most-below, less-with, times-at-most}
 use Rattle.decay.specs.Series.{factorial, term, E, Encloses, roundedDown, isKind, exponent, entryOf, entriesFrom, tableOf, atRate}
-use Rattle.decay.specs.ByMonth.{parts, bracketOf, outwards, leftOf}
+use Rattle.decay.specs.ByMonth.{perBillionth, bracketOf, outwards, leftOf}
 use Rattle.decay.proofs.Series.{odd-term}
 use Rattle.decay.proofs.Sums.{alike, bottom-pos, summed, sum-is}
 use Rattle.decay.proofs.Every.{everyFrom, upTo, number-at}
@@ -87,37 +87,32 @@ module _ (p q : ℕ) (h : 0 < q) where
   here : (D : ℕ) → T (encloses? D) → Entry (roundedDown (over p q h))
   here D ok = let e = meets D ok in rw (is-rounded-down p q h D (e .rule)) at e
 
-  -- 10^9 × E(15) rounded down, and whether it is an entry
-  down : (a b : ℕ) → ℕ
-  down a b = (10 ^ 9 * (b * (q * 15)) - 10 ^ 9 * (a * (q * 14 * (q * 15)) + p ^ 15)) / (q ^ 15 * factorial 15)
+  -- 10^9 × E(15) rounded down
+  down : ℕ
+  down = let a = alike p q h 13 in let b = alike p q h 14 in (10 ^ 9 * (b * (q * 15)) - 10 ^ 9 * (a * (q * 14 * (q * 15)) + p ^ 15)) / (q ^ 15 * factorial 15)
 
-  down? : (a b : ℕ) → Bool
-  down? a b = within? (down a b) a b
+-- Every rate of a kind by one test, with a number for each; d is the denominator of the kind.
+module _ (d : ℕ) (h : 0 < d) (D : ℕ → ℕ) where
+  passes? : ℕ → Bool
+  passes? r = encloses? r d h (D r)
 
--- Every rate of a kind, by one test; d is the denominator of the kind.
-module _ (d : ℕ) (h : 0 < d) where
-  rate? : ℕ → Bool
-  rate? r = down? r d h (alike r d h 13) (alike r d h 14)
+  every-rate : T (upTo passes? 400) → (r : ℕ) → 1 ≤ r → r ≤ 400 → T (encloses? r d h (D r))
+  unfolding passes?
+  every-rate = number-at passes? 400
 
-  every-rate : T (upTo rate? 400) → (r : ℕ) → 1 ≤ r → r ≤ 400 → Entry r d h (roundedDown (over r d h))
-  unfolding rate? down? encloses?
-  every-rate ok r low high = here r d h (down r d h (alike r d h 13) (alike r d h 14)) (number-at rate? 400 ok r low high)
+yearly-passes : (h : 0 < 1000) (r : ℕ) → 1 ≤ r → r ≤ 400 → T (encloses? r 1000 h (down r 1000 h))
+unfolding passes? encloses? within? low? high? down factorial
+yearly-passes h = every-rate 1000 h (λ r. down r 1000 h) tt
+
+pub worked-passes : (h : 0 < 12000) (r : ℕ) → 1 ≤ r → r ≤ 400 → T (encloses? r 12000 h (leftOf r / perBillionth))
+unfolding passes? encloses? within? low? high? factorial leftOf outwards bracketOf
+worked-passes h = every-rate 12000 h (λ r. leftOf r / perBillionth) tt
 
 yearly : (r : ℕ) → 1 ≤ r → r ≤ 400 → Entry r 1000 (omega arith) (roundedDown (over r 1000 (omega arith)))
-unfolding rate? down down? within? low? high? factorial
-yearly = every-rate 1000 (omega arith) tt
-
--- By month what is worked out passes the test at every rate.
-module _ (h : 0 < 12000) where
-  worked? : ℕ → Bool
-  worked? r = encloses? r 12000 h (leftOf r / parts)
-
-  pub worked-passes : (r : ℕ) → 1 ≤ r → r ≤ 400 → T (encloses? r 12000 h (leftOf r / parts))
-  unfolding worked? encloses? within? low? high? factorial leftOf outwards bracketOf
-  worked-passes = number-at worked? 400 tt
+yearly r low high = here r 1000 _ (down r 1000 _) (yearly-passes _ r low high)
 
 monthly : (r : ℕ) → 1 ≤ r → r ≤ 400 → Entry r 12000 (omega arith) (roundedDown (over r 12000 (omega arith)))
-monthly r low high = here r 12000 _ (leftOf r / parts) (worked-passes _ r low high)
+monthly r low high = here r 12000 _ (leftOf r / perBillionth) (worked-passes _ r low high)
 
 -- What is known of every entry, once over the kind.
 pub record Listed (kind rate D : ℕ) : Type 0 where

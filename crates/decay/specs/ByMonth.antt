@@ -5,17 +5,17 @@ use Prim.Native.Nat.{ℕ, zero, suc, _-_, _*_, _/_, _^_}
 use lib.ListN.{set, replicate}
 use Rattle.decay.specs.Series.{entryOf}
 
--- A billionth in parts, and the whole in them: 10^16.
-abbrev pub parts : ℕ
-parts = 10 ^ 7
+-- The whole is taken as 10^16: 10^9 billionths, each 10^7.
+abbrev pub perBillionth : ℕ
+perBillionth = 10 ^ 7
 
-abbrev pub allParts : ℕ
-allParts = 10 ^ 9 * parts
+abbrev pub scale : ℕ
+scale = 10 ^ 9 * perBillionth
 
--- E(n) is 1 − x/1 × (1 − x/2 × (.. × (1 − x/n))), with x = rate / 12000. The bracket of n, in parts: the whole less the quotient of what the
--- bracket within it left, rounded down.
+-- E(n) is 1 − x/1 × (1 − x/2 × (.. × (1 − x/n))), with x = rate / 12000. The bracket of n: the whole less the quotient of what the bracket
+-- within it left, rounded down.
 unfoldable pub bracketOf : (rate n left : ℕ) → ℕ
-bracketOf rate n left = allParts - left * rate / (12000 * n)
+bracketOf rate n left = scale - left * rate / (12000 * n)
 
 -- The brackets of n, n − 1, .., 1, from the innermost outwards.
 unfoldable pub outwards : (rate n left : ℕ) → ℕ
@@ -24,7 +24,7 @@ outwards rate (suc n) left = outwards rate n (bracketOf rate (suc n) left)
 
 -- What a month leaves of the whole, by E(5).
 unfoldable pub leftOf : ℕ → ℕ
-leftOf rate = outwards rate 5 allParts
+leftOf rate = outwards rate 5 scale
 
 -- A table by month as it is filled in: the entries of the rates 1 to k, and 0 for the others as yet.
 unfoldable pub filledTo : ℕ → List ℕ

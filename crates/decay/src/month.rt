@@ -2,24 +2,24 @@
 ghost use mathlib.Core.Path.{_≡_};
 ghost use Prim.Native.Nat.{_+_, _≤_, _<_};
 ghost use Rattle.decay.specs.Series.{entryOf, tableOf};
-ghost use Rattle.decay.specs.ByMonth.{allParts, bracketOf, leftOf, filledTo};
+ghost use Rattle.decay.specs.ByMonth.{scale, bracketOf, leftOf, filledTo};
 
-// A billionth in parts, and the whole in them.
-const PARTS: u64 = 10_000_000;
+// The whole, as a number of which a billionth is still wide.
+const PER_BILLIONTH: u64 = 10_000_000;
 
-const ALL: u64 = 1_000_000_000 * PARTS;
+const SCALE: u64 = 1_000_000_000 * PER_BILLIONTH;
 
 // The terms of the series behind its first, and what x is the rate over.
 const TERMS: u64 = 5;
 
 const RATE_OVER: u64 = 12_000;
 
-// Answers what a bracket of the series comes to, by what the one within it has left.
+// Answers what a bracket of the series comes to, by what the one within it has left, both of the whole.
 fn bracket(rate: u64, n: u64, left: u64) -> u64
-    requires { ⌜ (rate ≤ 400) × (0 < n) × (n ≤ 5) × (left ≤ allParts) ⌝ }
+    requires { ⌜ (rate ≤ 400) × (0 < n) × (n ≤ 5) × (left ≤ scale) ⌝ }
     ensures { λ r. ⌜ r ≡ bracketOf rate n left ⌝ }
 {
-    ALL - left * rate / (RATE_OVER * n)
+    SCALE - left * rate / (RATE_OVER * n)
 }
 
 // Answers what a month leaves of the whole.
@@ -27,7 +27,7 @@ fn left_after_a_month(rate: u64) -> u64
     requires { ⌜ rate ≤ 400 ⌝ }
     ensures { λ r. ⌜ r ≡ leftOf rate ⌝ }
 {
-    let mut left = ALL;
+    let mut left = SCALE;
     let mut n = TERMS;
     while n > 0 {
         left = bracket(rate, n, left);
@@ -46,10 +46,10 @@ pub(crate) fn monthly(rate: u16) -> u32
     if rate > 400 {
         return 0;
     }
-    (left_after_a_month(rate as u64) / PARTS) as u32
+    (left_after_a_month(rate as u64) / PER_BILLIONTH) as u32
 }
 
-// Fills five more entries in.
+// Fills five more entries in: as many as the compiler still unrolls.
 fn fill_five(table: &mut [u32; 400], from: usize)
     requires { ⌜ from + 5 ≤ 400 ⌝ }
     requires { ⌜ now table ≡ filledTo from ⌝ }
@@ -60,11 +60,11 @@ fn fill_five(table: &mut [u32; 400], from: usize)
     }
 }
 
-// Fills forty more entries in.
-fn fill_forty(table: &mut [u32; 400], from: usize)
-    requires { ⌜ from + 40 ≤ 400 ⌝ }
+// Fills fifty more entries in: as many calls as the compiler still works into the caller.
+fn fill_fifty(table: &mut [u32; 400], from: usize)
+    requires { ⌜ from + 50 ≤ 400 ⌝ }
     requires { ⌜ now table ≡ filledTo from ⌝ }
-    ensures { λ r. ⌜ now (table .exit) ≡ filledTo (from + 40) ⌝ }
+    ensures { λ r. ⌜ now (table .exit) ≡ filledTo (from + 50) ⌝ }
 {
     fill_five(table, from);
     fill_five(table, from + 5);
@@ -74,23 +74,23 @@ fn fill_forty(table: &mut [u32; 400], from: usize)
     fill_five(table, from + 25);
     fill_five(table, from + 30);
     fill_five(table, from + 35);
+    fill_five(table, from + 40);
+    fill_five(table, from + 45);
 }
 
-// Answers the table by month. Its places are written out, so that the rates are known before the program runs, and of those that are
-// looked up by a known rate the entry alone is left.
+// Answers the table by month. The places are written out, so that the compiler knows each rate; where a caller reads known places, only
+// their entries stay in the program.
 pub(crate) fn monthly_table() -> [u32; 400]
     ensures { λ r. ⌜ r ≡ tableOf 2 ⌝ }
 {
     let mut table = [0u32; 400];
-    fill_forty(&mut table, 0);
-    fill_forty(&mut table, 40);
-    fill_forty(&mut table, 80);
-    fill_forty(&mut table, 120);
-    fill_forty(&mut table, 160);
-    fill_forty(&mut table, 200);
-    fill_forty(&mut table, 240);
-    fill_forty(&mut table, 280);
-    fill_forty(&mut table, 320);
-    fill_forty(&mut table, 360);
+    fill_fifty(&mut table, 0);
+    fill_fifty(&mut table, 50);
+    fill_fifty(&mut table, 100);
+    fill_fifty(&mut table, 150);
+    fill_fifty(&mut table, 200);
+    fill_fifty(&mut table, 250);
+    fill_fifty(&mut table, 300);
+    fill_fifty(&mut table, 350);
     table
 }

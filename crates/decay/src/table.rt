@@ -1,4 +1,4 @@
-// The table by year, its 400 entries as tools/decay_tables.py prints them, and tables as they are asked for a rate.
+// The 400 entries by year, as tools/decay_tables.py prints them; the table of a kind, and what a table has for a rate.
 ghost use mathlib.Core.Path.{_≡_};
 use crate::month::monthly_table;
 ghost use Rattle.decay.specs.Series.{entryOf, tableOf, atRate};

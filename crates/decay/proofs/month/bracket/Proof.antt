@@ -14,12 +14,9 @@ mul-result c =
     let small : c .args .left * c .args .rate ≤ 10 ^ 16 * 400 = mul-le-mul {n₂ = 10 ^ 16} {m₂ = 400} (search needs) (search needs) in
     omega arith
 
-returns : tie.Need-returns
-unfolding bracketOf
-returns c = refl
-
 pub bracket-spec : {M : Type 1} → statement M
+unfolding bracketOf
 bracket-spec =
     tie.close
     (tie.spec mul-result (λ c. search needs) (λ c. mul-pos (search needs) (search needs))
-    (λ c. quotient-within (c .args .rate) (c .args .n) (c .args .left) (search needs) (search needs) (search needs)) returns)
+    (λ c. quotient-within (c .args .rate) (c .args .n) (c .args .left) (search needs) (search needs) (search needs)) (λ c. refl))

@@ -6,7 +6,7 @@ use native.Mathlib.Omega.{arith}
 use borrow.Author.Needs.{needs}
 use borrow.Author.Tests.{lt-leb}
 use Rattle.decay.specs.Series.{entryOf}
-use Rattle.decay.specs.ByMonth.{parts}
+use Rattle.decay.specs.ByMonth.{perBillionth}
 use Rattle.decay.proofs.Rule.{entry-below}
 use Rattle.decay.proofs.ByMonth.{worked-out}
 use Rattle.decay.proofs.month.monthly.Statement.{statement}
@@ -21,12 +21,12 @@ unfolding entryOf
 returns-2 c = simp (lt-leb (c .before .before .args .rate) 400 (c .if2 .taken), and-false)
 
 -- the entry, as the code has it
-is-entry : (c : tie.After-left-after-a-month) → c .left-after-a-month .result / parts ≡ entryOf 2 (c .before .before .before .args .rate)
+is-entry : (c : tie.After-left-after-a-month) → c .left-after-a-month .result / perBillionth ≡ entryOf 2 (c .before .before .before .args .rate)
 is-entry c =
-    ap (λ (left : ℕ). left / parts) (c .left-after-a-month .ensures) ∙ worked-out (c .before .before .before .args .rate) (search needs) (search needs)
+    ap (λ (left : ℕ). left / perBillionth) (c .left-after-a-month .ensures) ∙ worked-out (c .before .before .before .args .rate) (search needs) (search needs)
 
 cast-result : tie.Need-cast-result
 cast-result c = omega (arith, is-entry c, entry-below 2 (c .before .before .before .args .rate))
 
 pub monthly-spec : {M : Type 1} → statement M
-monthly-spec = tie.close (tie.spec returns returns-2 (λ c κs. search needs) cast-result (λ c. is-entry c))
+monthly-spec = tie.close (tie.spec returns returns-2 (λ c κs. search needs) cast-result is-entry)
