@@ -18,7 +18,7 @@ returns c = rw (c .if1 .taken) refl
 
 returns-2 : tie.Need-returns-2
 unfolding entryOf
-returns-2 c = simp (lt-leb (c .before .before .args .rate) 400 (c .if2 .taken), and-false)
+returns-2 c = simp (lt-leb (c .before .before .args .rate) 400 (omega (arith, c .if2 .taken)), and-false)
 
 -- the entry, as the code has it
 is-entry : (c : tie.After-left-after-a-month) → c .left-after-a-month .result / perBillionth ≡ entryOf 2 (c .before .before .before .args .rate)
