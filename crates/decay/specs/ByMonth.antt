@@ -23,8 +23,11 @@ outwards rate zero left = left
 outwards rate (suc n) left = outwards rate n (bracketOf rate (suc n) left)
 
 -- What a month leaves of the whole, by E(5).
+abbrev pub terms : ℕ
+terms = 5
+
 unfoldable pub leftOf : ℕ → ℕ
-leftOf rate = outwards rate 5 scale
+leftOf rate = outwards rate terms scale
 
 -- A table by month as it is filled in: the entries of the rates 1 to k, and 0 for the others as yet.
 unfoldable pub filledTo : ℕ → List ℕ

@@ -2,7 +2,7 @@
 ghost use mathlib.Core.Path.{_≡_};
 ghost use Prim.Native.Nat.{_+_, _≤_, _<_};
 ghost use Rattle.decay.specs.Series.{entryOf, tableOf};
-ghost use Rattle.decay.specs.ByMonth.{scale, bracketOf, leftOf, filledTo};
+ghost use Rattle.decay.specs.ByMonth.{scale, bracketOf, terms, leftOf, filledTo};
 
 // The whole, as a number of which a billionth is still wide.
 const PER_BILLIONTH: u64 = 10_000_000;
@@ -16,7 +16,7 @@ const RATE_OVER: u64 = 12_000;
 
 // Answers what a bracket of the series comes to, by what the one within it has left, both of the whole.
 fn bracket(rate: u64, n: u64, left: u64) -> u64
-    requires { ⌜ (rate ≤ 400) × (0 < n) × (n ≤ 5) × (left ≤ scale) ⌝ }
+    requires { ⌜ (rate ≤ 400) × (0 < n) × (n ≤ terms) × (left ≤ scale) ⌝ }
     ensures { λ r. ⌜ r ≡ bracketOf rate n left ⌝ }
 {
     SCALE - left * rate / (RATE_OVER * n)

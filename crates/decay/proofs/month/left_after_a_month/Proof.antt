@@ -3,13 +3,13 @@ use mathlib.Core.Path.{_≡_, refl, sym, _∙_}
 use Prim.Native.Nat.{_≤_}
 use native.Mathlib.Omega.{arith}
 use borrow.Author.Needs.{needs}
-use Rattle.decay.specs.ByMonth.{scale, outwards, leftOf}
+use Rattle.decay.specs.ByMonth.{scale, outwards, terms, leftOf}
 use Rattle.decay.proofs.ByMonth.{outwards-next, bracket-within}
 use Rattle.decay.proofs.month.left_after_a_month.Statement.{statement}
 use Rattle.decay.proofs.month.left_after_a_month.Tie as tie
 
 abbrev Inv-loop : tie.InvT-loop
-Inv-loop rate left₀ n₀ left n = (n ≤ 5) × (left ≤ scale) × (outwards rate n left ≡ leftOf rate)
+Inv-loop rate left₀ n₀ left n = (n ≤ terms) × (left ≤ scale) × (outwards rate n left ≡ leftOf rate)
 
 abbrev μ-loop : tie.MeasureT-loop
 μ-loop rate left₀ n₀ left n = n
