@@ -49,7 +49,7 @@ pub(crate) fn monthly(rate: u16) -> u32
     (left_after_a_month(rate as u64) / PER_BILLIONTH) as u32
 }
 
-// Fills five more entries in: as many as the compiler still unrolls.
+// Fills five more entries in: few enough for the compiler to unroll.
 fn fill_five(table: &mut [u32; 400], from: usize)
     requires { ⌜ from + 5 ≤ 400 ⌝ }
     requires { ⌜ now table ≡ filledTo from ⌝ }
@@ -60,7 +60,7 @@ fn fill_five(table: &mut [u32; 400], from: usize)
     }
 }
 
-// Fills fifty more entries in: as many calls as the compiler still works into the caller.
+// Fills fifty more entries in: few enough calls for the compiler to work into the caller.
 fn fill_fifty(table: &mut [u32; 400], from: usize)
     requires { ⌜ from + 50 ≤ 400 ⌝ }
     requires { ⌜ now table ≡ filledTo from ⌝ }
