@@ -1,9 +1,8 @@
 -- What holds of a record that is not refused, looked up by the fault's number, and that the ledger after it is sound again.
 use mathlib.Core.Path.{_≡_, refl}
-use mathlib.Core.Bool.{Bool, true, false, not, cond}
+use mathlib.Core.Bool.{Bool, true, false, not, cond, _&&_}
 use mathlib.Core.List.{List}
 use Prim.Native.Nat.{ℕ, _+_, _*_, _≤_, _<_}
-use native.Mathlib.Nat.{mul-le-mul-right}
 use native.Mathlib.Omega.{arith}
 use borrow.Author.Tests.{not-false, eqb-true, eqb-false, ltb-false, lt-ltb, le-ltb}
 use lib.Dec.{eqb}
@@ -15,8 +14,8 @@ use Rattle.numbers.proofs.Fault.{isBad, clear, parted}
 use Rattle.decay.specs.Series.{isKind}
 use Rattle.waste.specs.Waste.{carbonOf, isClimate, isClass}
 use Rattle.record.specs.Fields.{recordBytes, periodOf, kindOf, climateOf, classOf, factorsOf, depositOf}
-use Rattle.record.specs.Ranges.{codes, coded, inRange, light}
-use Rattle.record.proofs.Laws.{mass-light}
+use Rattle.record.specs.Ranges.{codes, coded, inRange, dryInRange, light}
+use Rattle.record.proofs.Laws.{deposit-within}
 use Rattle.stock.specs.Stock.{mostRecords, mostBrought, entryAt, ceilingOf}
 use Rattle.stock.proofs.Laws.{entry-small}
 use Rattle.year.specs.Year.{noYear, shares, soundYear}
@@ -58,6 +57,7 @@ module _ (l : Ledger) (bytes : List ℕ) where
     pub period : periodOf bytes ≡ l .n + 1
     pub same : (l .n ≡ 0 → ⊥) → (kindOf bytes ≡ l .kind) × (climateOf bytes ≡ l .climate)
     pub ranges : inRange (factorsOf bytes) ≡ true
+    pub dry : dryInRange bytes ≡ true
     pub shared : shares (l .n) (l .year) bytes ≡ true
     pub light-each : (t : ℕ) → t < 8 → light bytes t ≡ true
 
@@ -66,6 +66,7 @@ module _ (l : Ledger) (bytes : List ℕ) where
   accepted room e =
       let full = eqb-false (l .n) mostRecords (none l bytes room e 4) in
       let s = sound-is l (was-sound l bytes room e) in
+      let ranged = both-true (inRange (factorsOf bytes)) (dryInRange bytes) (not-false (inRange (factorsOf bytes) && dryInRange bytes) (none l bytes room e 8)) in
       let code = all-true (codes bytes) (not-false (coded bytes) (none l bytes room e 5)) in
       record {
         size = eqb-true (length bytes) recordBytes (not-false (eqb (length bytes) recordBytes) (none l bytes room e 1));
@@ -80,7 +81,8 @@ module _ (l : Ledger) (bytes : List ℕ) where
             = not-false (continues (l .kind) (l .climate) bytes) (simp (lt-ltb 0 (l .n) (omega (arith, some))) at (none l bytes room e 7)) in
             let q = both-true (eqb (kindOf bytes) (l .kind)) (eqb (climateOf bytes) (l .climate)) both in
             (eqb-true (kindOf bytes) (l .kind) (q .0), eqb-true (climateOf bytes) (l .climate) (q .1));
-        ranges = not-false (inRange (factorsOf bytes)) (none l bytes room e 8);
+        ranges = ranged .0;
+        dry = ranged .1;
         shared = not-false (shares (l .n) (l .year) bytes) (none l bytes room e 17);
         light-each = λ t h. every-at (light bytes) 8 t h (not-false (everyOf (light bytes) 8) (none l bytes room e 9));
       }
@@ -105,8 +107,8 @@ room-alike l bytes room more h k = simp (le-ltb room recordBytes h, le-ltb more 
 
 module _ (l : Ledger) (bytes : List ℕ) (a : Accepted l bytes) (t : ℕ) (h : t < 8) where
   pub new-within : newBrought l bytes t ≤ ceilingOf (l .n + 1) t
-  unfolding newBrought depositOf ceilingOf
-  new-within = omega (arith, mul-le-mul-right (carbonOf (t + 1) * 100) (mass-light bytes t (a .light-each t h)), a .ledger .at t h .ceiling)
+  unfolding newBrought ceilingOf
+  new-within = omega (arith, deposit-within bytes t (a .light-each t h) (a .dry), a .ledger .at t h .ceiling)
 
   pub release-most : release l bytes t ≤ newBrought l bytes t
   unfolding release held newBrought

@@ -18,7 +18,7 @@ use Rattle.ledger.specs.Stock.{broughtAt, stockAt, releasedAt}
 use Rattle.ledger.specs.Refusal.{sound, blank, inCode, allZero, inOrder, emptyAt, withinAt}
 use Rattle.ledger.specs.declared.book.Ledger.{Ledger}
 
--- Of each type R is at most T, and T at most its ceiling, which is at most that of wood; released and R make up T.
+-- Of each type R is at most T, and T at most its ceiling, which is at most that of dry domestic sludge; released and R make up T.
 pub record WithinCeiling (l : Ledger) (t : ℕ) : Type 0 where
   pub kept : stockAt l t ≤ broughtAt l t
   pub ceiling : broughtAt l t ≤ ceilingOf (l .n) t

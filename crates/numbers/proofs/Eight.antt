@@ -1,6 +1,6 @@
 -- Laws of the eight numbers, and of sums and tests over places: one more place, and each place.
 use mathlib.Core.Path.{_≡_, refl, ap, _∙_}
-use mathlib.Core.Bool.{Bool, true, false, _&&_, _||_, and-false}
+use mathlib.Core.Bool.{Bool, true, false, cond, _&&_, _||_, and-false}
 use mathlib.Core.List.{List, [], _∷_}
 use mathlib.Core.Logic.{_⊎_, inl, inr, ⊎-elim}
 use Prim.Native.Nat.{ℕ, zero, suc, _+_, _-_, _*_, _≤_, _<_}
@@ -71,6 +71,10 @@ both-true false b e = (e, cc)
 
 pub three-true : (a b c : Bool) → (a && b && c) ≡ true → (a ≡ true) × ((b ≡ true) × (c ≡ true))
 three-true a b c e = let p = both-true (a && b) c e in let q = both-true a b (p .0) in (q .0, (q .1, p .1))
+
+pub cond-most : (b : Bool) {x y most : ℕ} → x ≤ most → y ≤ most → cond b x y ≤ most
+cond-most true h k = h
+cond-most false h k = k
 
 pub either-true : (a b : Bool) → (a || b) ≡ true → (a ≡ true) ⊎ (b ≡ true)
 either-true true b e = inl refl

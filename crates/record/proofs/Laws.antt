@@ -1,17 +1,18 @@
 -- Laws of a record: what its ranges say of its factors, and how much a deposit can be.
-use mathlib.Core.Path.{_≡_, refl}
+use mathlib.Core.Path.{_≡_}
 use mathlib.Core.Bool.{true}
 use mathlib.Core.List.{List}
-use Prim.Native.Nat.{ℕ, _+_, _*_, _≤_}
+use Prim.Native.Nat.{ℕ, _+_, _*_, _≤_, zero-le}
 use native.Mathlib.Nat.{mul-le-mul}
 use native.Mathlib.Omega.{arith}
 use borrow.Author.Tests.{leb-true}
-use Rattle.numbers.proofs.Eight.{all-true}
+use lib.Dec.{eqb, leb}
+use Rattle.numbers.proofs.Eight.{both-true, all-true, cond-most}
 use Rattle.numbers.proofs.Fault.{between-high}
-use Rattle.waste.specs.Waste.{massLimit, mostCarbon, carbonOf}
-use Rattle.waste.proofs.Laws.{carbon-most}
-use Rattle.record.specs.Fields.{massOf, depositOf, mostDeposit}
-use Rattle.record.specs.Ranges.{ranges, inRange, light}
+use Rattle.waste.specs.Waste.{massLimit, carbonOf, mostDry, mostCarbonOf}
+use Rattle.waste.proofs.Laws.{carbon-most, highest-most}
+use Rattle.record.specs.Fields.{dryOf, massOf, depositOf, mostDeposit}
+use Rattle.record.specs.Ranges.{ranges, inRange, dryInRange, light}
 use Rattle.record.specs.declared.factors.Factors.{Factors}
 
 pub record Ranged (v : Factors) : Type 0 where
@@ -35,14 +36,23 @@ ranged v e =
       captured = leb-true (v .captured) 10000 (p .1 .1 .1 .1 .1 .0);
     }
 
--- A mass within a limit has at most so much carbon.
-pub carbon-within : (mass limit carbon t : ℕ) → mass ≤ limit → carbon ≡ carbonOf (t + 1) → mass * carbon ≤ limit * mostCarbon
-carbon-within mass limit carbon t h e = mul-le-mul {m₂ = mostCarbon} h (rw e (carbon-most (t + 1)))
-
 pub mass-light : (bytes : List ℕ) (t : ℕ) → light bytes t ≡ true → massOf bytes t ≤ massLimit
 unfolding light
 mass-light bytes t e = leb-true (massOf bytes t) massLimit e
 
-pub deposit-most : (bytes : List ℕ) (t : ℕ) → light bytes t ≡ true → depositOf bytes t ≤ mostDeposit
+pub dry-most : (bytes : List ℕ) (waste : ℕ) → dryInRange bytes ≡ true → dryOf bytes waste ≤ mostDry
+unfolding dryInRange dryOf
+dry-most bytes waste e =
+    let p = both-true (leb (dryOf bytes 7) mostDry) (leb (dryOf bytes 8) mostDry) e in
+    cond-most (eqb waste 7) (leb-true (dryOf bytes 7) mostDry (p .0)) (cond-most (eqb waste 8) (leb-true (dryOf bytes 8) mostDry (p .1)) zero-le)
+
+-- A record brings no more than its type's share of the ceiling, and no type more than any can.
+pub deposit-within : (bytes : List ℕ) (t : ℕ) → light bytes t ≡ true → dryInRange bytes ≡ true → depositOf bytes t ≤ massLimit * mostCarbonOf (t + 1) * 100
 unfolding depositOf
-deposit-most bytes t e = omega (arith, carbon-within (massOf bytes t) massLimit (carbonOf (t + 1)) t (mass-light bytes t e) refl)
+deposit-within bytes t e f =
+    let m : massOf bytes t * carbonOf (t + 1) (dryOf bytes (t + 1)) ≤ massLimit * mostCarbonOf (t + 1)
+    = mul-le-mul (mass-light bytes t e) (carbon-most (t + 1) (dryOf bytes (t + 1)) (dry-most bytes (t + 1) f)) in
+    omega arith
+
+pub deposit-most : (bytes : List ℕ) (t : ℕ) → light bytes t ≡ true → dryInRange bytes ≡ true → depositOf bytes t ≤ mostDeposit
+deposit-most bytes t e f = omega (arith, deposit-within bytes t e f, highest-most (t + 1))

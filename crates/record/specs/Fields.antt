@@ -1,6 +1,8 @@
--- Document 01, 'One record': what its 48 bytes say. A byte that is not there counts 0.
+-- Document 01, 'One record', with request f of document 02: what its 48 bytes say. A byte that is not there counts 0.
+use mathlib.Core.Bool.{cond}
 use mathlib.Core.List.{List}
 use Prim.Native.Nat.{ℕ, _+_, _*_}
+use lib.Dec.{eqb}
 use lib.ListN.{getD}
 use Rattle.numbers.specs.Bytes.{numberAt}
 use Rattle.waste.specs.Waste.{massLimit, mostCarbon, carbonOf}
@@ -44,17 +46,21 @@ module _ (bytes : List ℕ) where
         captured = capturedOf;
       }
 
-  -- bytes 12 to 15, which are to be zero
+  -- the organic dry matter m of sludge, percent: byte 12 gives it for type 7, byte 13 for type 8.
+  unfoldable pub dryOf : (waste : ℕ) → ℕ
+  dryOf waste = cond (eqb waste 7) (getD bytes 12 0) (cond (eqb waste 8) (getD bytes 13 0) 0)
+
+  -- bytes 14 and 15, which are to be zero
   unfoldable pub zerosOf : ℕ
-  zerosOf = numberAt 4 bytes 12
+  zerosOf = numberAt 2 bytes 14
 
   -- the mass at place t, in kg; 0 means nothing was brought
   unfoldable pub massOf : (t : ℕ) → ℕ
   massOf t = numberAt 4 bytes (16 + 4 * t)
 
-  -- 'One step': deposit = mass × DOC × 100 mg
+  -- 'One step': deposit = mass × DOC × 100 mg, with DOC of the record's own m
   unfoldable pub depositOf : (t : ℕ) → ℕ
-  depositOf t = massOf t * carbonOf (t + 1) * 100
+  depositOf t = massOf t * carbonOf (t + 1) (dryOf (t + 1)) * 100
 
 -- The most that one deposit can be, in mg.
 abbrev pub mostDeposit : ℕ

@@ -1,8 +1,7 @@
 // The other fields of a record, what is allowed in them, and the carbon of a mass.
 ghost use mathlib.Core.Path.{_≡_};
-ghost use lib.Dec.{eqb};
-ghost use Rattle.record.specs.Fields.{periodOf, kindOf, climateOf, factorOf, classOf, capturedOf, zerosOf, massOf, depositOf};
-ghost use Rattle.record.specs.Ranges.{coded, light};
+ghost use Rattle.record.specs.Fields.{periodOf, kindOf, climateOf, factorOf, classOf, capturedOf, dryOf, massOf, depositOf};
+ghost use Rattle.record.specs.Ranges.{coded, dryInRange, light};
 use crate::bytes::byte;
 use crate::bytes::four;
 use crate::bytes::two;
@@ -49,19 +48,29 @@ pub fn captured(bytes: &[u8]) -> u16
     two(bytes, 10)
 }
 
-// Tells whether bytes 12 to 15 are zero: the first is, and their number is too small for any other. So written, it compiles to two
-// comparisons.
-fn is_blank(bytes: &[u8]) -> bool
-    ensures { λ r. ⌜ r ≡ eqb (zerosOf (now (bytes .entry))) 0 ⌝ }
+// Answers the organic dry matter m of a type, in percent; 0 where its carbon content is the default.
+fn dry(bytes: &[u8], waste: u8) -> u8
+    ensures { λ r. ⌜ r ≡ dryOf (now (bytes .entry)) waste ⌝ }
 {
-    (byte(bytes, 12) == 0) & (four(bytes, 12) < 255)
+    match waste {
+        7 => byte(bytes, 12),
+        8 => byte(bytes, 13),
+        _ => 0,
+    }
 }
 
-// Tells whether kind, climate and class are codes and bytes 12 to 15 are zero.
+// Tells whether m of both kinds of sludge is within its range.
+pub fn is_dry_in_range(bytes: &[u8]) -> bool
+    ensures { λ r. ⌜ r ≡ dryInRange (now (bytes .entry)) ⌝ }
+{
+    (dry(bytes, 7) <= waste::MOST_DRY) & (dry(bytes, 8) <= waste::MOST_DRY)
+}
+
+// Tells whether kind, climate and class are codes and bytes 14 and 15 are zero.
 pub fn is_coded(bytes: &[u8]) -> bool
     ensures { λ r. ⌜ r ≡ coded (now (bytes .entry)) ⌝ }
 {
-    let class = waste::is_class(class(bytes)) & is_blank(bytes);
+    let class = waste::is_class(class(bytes)) & (two(bytes, 14) == 0);
     let climate = waste::is_climate(climate(bytes)) & class;
     decay::is_kind(kind(bytes)) & climate
 }
@@ -87,5 +96,5 @@ pub fn deposit(bytes: &[u8], t: u8) -> u64
     if t > 7 {
         return 0;
     }
-    mass(bytes, t) as u64 * waste::carbon(t + 1) as u64 * 100
+    mass(bytes, t) as u64 * waste::carbon(t + 1, dry(bytes, t + 1)) as u64 * 100
 }

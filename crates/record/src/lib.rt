@@ -13,6 +13,7 @@ pub use fields::climate;
 pub use fields::deposit;
 pub use fields::factor;
 pub use fields::is_coded;
+pub use fields::is_dry_in_range;
 pub use fields::is_light;
 pub use fields::kind;
 pub use fields::period;

@@ -1,4 +1,5 @@
--- Document 01, 'Refusal numbers, tested in this order'; and of document 02 request c: '17, after 8 and before 9'.
+-- Document 01, 'Refusal numbers, tested in this order'; and of document 02 request c: '17, after 8 and before 9', and request f: '8 also
+-- covers m over 100'.
 use mathlib.Core.Bool.{Bool, not, _&&_}
 use mathlib.Core.List.{List, [], _∷_}
 use Prim.Native.Nat.{ℕ, _+_}
@@ -7,7 +8,7 @@ use lib.ListN.{length}
 use Rattle.numbers.specs.Eight.{everyOf}
 use Rattle.numbers.specs.Fault.{Fault, _when_}
 use Rattle.record.specs.Fields.{recordBytes, periodOf, kindOf, climateOf, factorsOf}
-use Rattle.record.specs.Ranges.{coded, inRange, light}
+use Rattle.record.specs.Ranges.{coded, inRange, dryInRange, light}
 use Rattle.stock.specs.Stock.{mostRecords}
 use Rattle.year.specs.Year.{shares}
 use Rattle.year.specs.declared.Year.{Year}
@@ -27,7 +28,7 @@ faultsOf good n kind climate year bytes room =
     ∷ 5 when not (coded bytes)
     ∷ 6 when not (eqb (periodOf bytes) (n + 1))
     ∷ 7 when (ltb 0 n && not (continues kind climate bytes))
-    ∷ 8 when not (inRange (factorsOf bytes))
+    ∷ 8 when not (inRange (factorsOf bytes) && dryInRange bytes)
     ∷ 17 when not (shares n year bytes)
     ∷ 9 when not (everyOf (light bytes) 8)
     ∷ []

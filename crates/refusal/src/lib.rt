@@ -42,7 +42,7 @@ pub fn early(n: u16, kind: u8, climate: u8, year: Year, good: bool, bytes: &[u8]
     if (n > 0) & !is_continued(kind, climate, bytes) {
         return 7;
     }
-    if !Factors::of(bytes).is_in_range() {
+    if !(Factors::of(bytes).is_in_range() & record::is_dry_in_range(bytes)) {
         return 8;
     }
     if !year.is_shared(n, bytes) {

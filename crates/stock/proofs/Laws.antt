@@ -6,15 +6,15 @@ use native.Mathlib.Omega.{arith}
 use Rattle.numbers.specs.Eight.{sumOf}
 use Rattle.numbers.proofs.Eight.{sum-most}
 use Rattle.decay.proofs.Rule.{entry-below}
-use Rattle.waste.specs.Waste.{massLimit, mostCarbon, carbonOf}
-use Rattle.waste.proofs.Laws.{carbon-most}
+use Rattle.waste.specs.Waste.{massLimit, mostCarbonOf, mostCarbon}
+use Rattle.waste.proofs.Laws.{highest-most}
 use Rattle.stock.specs.Stock.{mostRecords, mostBrought, entryAt, ceilingOf}
 
 pub ceiling-most : (n t : ℕ) → n ≤ mostRecords → ceilingOf n t ≤ mostBrought
 unfolding ceilingOf
 ceiling-most n t h =
-    let m : n * massLimit * carbonOf (t + 1) ≤ mostRecords * massLimit * mostCarbon
-    = mul-le-mul {n₂ = mostRecords * massLimit} {m₂ = mostCarbon} (omega arith) (carbon-most (t + 1)) in
+    let m : n * massLimit * mostCarbonOf (t + 1) ≤ mostRecords * massLimit * mostCarbon
+    = mul-le-mul {n₂ = mostRecords * massLimit} {m₂ = mostCarbon} (omega arith) (highest-most (t + 1)) in
     omega arith
 
 pub entry-small : (kind climate t : ℕ) → entryAt kind climate t < 10 ^ 9

@@ -4,7 +4,7 @@ use mathlib.Core.Bool.{Bool, _&&_}
 use Prim.Native.Nat.{ℕ, _+_, _*_}
 use lib.Dec.{eqb, leb}
 use Rattle.decay.specs.Series.{entryOf}
-use Rattle.waste.specs.Waste.{massLimit, carbonOf, rateOf}
+use Rattle.waste.specs.Waste.{massLimit, mostCarbonOf, rateOf}
 use Rattle.record.specs.Fields.{mostDeposit}
 
 -- At most 1200 records.
@@ -19,9 +19,10 @@ mostBrought = mostRecords * mostDeposit
 unfoldable pub entryAt : (kind climate t : ℕ) → ℕ
 entryAt kind climate t = entryOf kind (rateOf (t + 1) climate)
 
--- T is at most n × 10^9 × DOC × 100, and R at most T; by request b of document 02, released plus R is T.
+-- T is at most n × 10^9 × DOC × 100, by request f of document 02 with DOC 5000 and 2571 for types 7 and 8, and R at most T; by request b
+-- released plus R is T.
 unfoldable pub ceilingOf : (n t : ℕ) → ℕ
-ceilingOf n t = n * massLimit * carbonOf (t + 1) * 100
+ceilingOf n t = n * massLimit * mostCarbonOf (t + 1) * 100
 
 unfoldable pub withinOf : (n T R released t : ℕ) → Bool
 withinOf n T R released t = leb T (ceilingOf n t) && leb R T && eqb (released + R) T

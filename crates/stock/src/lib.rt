@@ -52,7 +52,7 @@ fn is_within(n: u64, brought: u64, left: u64, released: u64, t: usize) -> bool
     requires { ⌜ (n ≤ mostRecords) × (t < 8) ⌝ }
     ensures { λ r. ⌜ r ≡ withinOf n brought left released t ⌝ }
 {
-    let ceiling = n * waste::MASS_LIMIT * waste::carbon(t as u8 + 1) as u64 * 100;
+    let ceiling = n * waste::MASS_LIMIT * waste::carbon(t as u8 + 1, waste::MOST_DRY) as u64 * 100;
     let sum = std::num::wrapping_add_u64(released, left);
     (brought <= ceiling) & (left <= brought) & (sum == brought)
 }

@@ -1,8 +1,9 @@
--- Document 01, 'Waste types and their constants'. The lists stand in the order of the fixed numbers, which saved files hold:
--- never sort them, and never let them follow the names in any language.
-use mathlib.Core.Bool.{Bool}
+-- Document 01, 'Waste types and their constants', with request f of document 02. The lists stand in the order of the fixed numbers, which
+-- saved files hold: never sort them, and never let them follow the names in any language.
+use mathlib.Core.Bool.{Bool, cond}
 use mathlib.Core.List.{List, [], _∷_}
-use Prim.Native.Nat.{ℕ, _^_}
+use Prim.Native.Nat.{ℕ, _*_, _/_, _^_}
+use lib.Dec.{eqb}
 use lib.ListN.{getD, replicate}
 use Rattle.numbers.specs.Fault.{between}
 
@@ -10,16 +11,31 @@ use Rattle.numbers.specs.Fault.{between}
 abbrev pub numbered : List ℕ → ℕ → ℕ
 numbered xs k = getD (0 ∷ xs) k 0
 
--- DOC of types 1 to 8, in hundredths of a percent of wet weight.
-abbrev pub carbons : List ℕ
-carbons = 4300 ∷ 4000 ∷ 1500 ∷ 2400 ∷ 2000 ∷ 0 ∷ 500 ∷ 900 ∷ []
+-- Request f: DOC of sludge with m percent of organic dry matter, rounded down; m of 0 keeps the default.
+abbrev pub domesticOf : (m : ℕ) → ℕ
+domesticOf m = cond (eqb m 0) 500 (50 * m)
 
-unfoldable pub carbonOf : (waste : ℕ) → ℕ
-carbonOf waste = numbered carbons waste
+abbrev pub industrialOf : (m : ℕ) → ℕ
+industrialOf m = cond (eqb m 0) 900 (900 * m / 35)
 
--- No type has more than wood.
+-- DOC of types 1 to 8, in hundredths of a percent of wet weight; m is that of the type asked for.
+abbrev pub carbons : (m : ℕ) → List ℕ
+carbons m = 4300 ∷ 4000 ∷ 1500 ∷ 2400 ∷ 2000 ∷ 0 ∷ domesticOf m ∷ industrialOf m ∷ []
+
+unfoldable pub carbonOf : (waste m : ℕ) → ℕ
+carbonOf waste m = numbered (carbons m) waste
+
+-- m is a percentage.
+abbrev pub mostDry : ℕ
+mostDry = 100
+
+-- The most that DOC of a type can be: 5000 and 2571 for types 7 and 8.
+abbrev pub mostCarbonOf : (waste : ℕ) → ℕ
+mostCarbonOf waste = carbonOf waste mostDry
+
+-- No type has more than dry domestic sludge.
 abbrev pub mostCarbon : ℕ
-mostCarbon = 4300
+mostCarbon = 5000
 
 -- The most of one type that a record or a cell can bring, and the largest total that samples part, in kilograms.
 abbrev pub massLimit : ℕ

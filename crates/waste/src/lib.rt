@@ -4,18 +4,18 @@ ghost use mathlib.Core.List.{_∷_};
 ghost use mathlib.Core.Path.{_≡_};
 ghost use Prim.Native.Nat.{_+_};
 ghost use Rattle.numbers.specs.Eight.{eight};
-ghost use Rattle.waste.specs.Waste.{carbonOf, isClimate, groupOf, rateOf, isClass, correctionOf};
+ghost use Rattle.waste.specs.Waste.{domesticOf, industrialOf, carbonOf, isClimate, groupOf, rateOf, isClass, correctionOf};
 
 // The most of one type that a record or a cell can bring, and the largest total that samples part, in kilograms.
 pub const MASS_LIMIT: u64 = 1_000_000_000;
+
+// The most organic dry matter that sludge can have, in percent.
+pub const MOST_DRY: u8 = 100;
 
 // The climates, and the site classes, by codes from 1 on.
 const CLIMATES: usize = 4;
 
 const CLASSES: usize = 4;
-
-// By number, place 0 being no type: the order is never that of a translated list.
-const CARBON: [u16; 9] = [0, 4300, 4000, 1500, 2400, 2000, 0, 500, 900];
 
 // Rates by climate code, place 0 being no climate.
 const GROUP_A: [u16; CLIMATES + 1] = [0, 40, 60, 45, 70];
@@ -30,14 +30,38 @@ const ALIKE: [u16; CLIMATES + 1] = [0, 30, 30, 30, 30];
 
 const NONE: [u16; CLIMATES + 1] = [0; CLIMATES + 1];
 
-// Answers the carbon content (DOC) of a type, in hundredths of a percent of wet weight.
-pub fn carbon(waste: u8) -> u16
-    ensures { λ r. ⌜ r ≡ carbonOf waste ⌝ }
+// Answers the carbon content (DOC) of domestic sludge with m percent of organic dry matter; 0 keeps the default.
+fn domestic(m: u8) -> u16
+    ensures { λ r. ⌜ r ≡ domesticOf m ⌝ }
 {
-    if waste > 8 {
-        return 0;
+    if m == 0 { 500 } else { 50 * m as u16 }
+}
+
+// Answers that of industrial sludge.
+fn industrial(m: u8) -> u16
+    ensures { λ r. ⌜ r ≡ industrialOf m ⌝ }
+{
+    if m == 0 {
+        900
+    } else {
+        (900 * m as u32 / 35) as u16
     }
-    CARBON[waste as usize]
+}
+
+// Answers the carbon content of a type, in hundredths of a percent of wet weight; m counts for sludge only.
+pub fn carbon(waste: u8, m: u8) -> u16
+    ensures { λ r. ⌜ r ≡ carbonOf waste m ⌝ }
+{
+    match waste {
+        1 => 4300,
+        2 => 4000,
+        3 => 1500,
+        4 => 2400,
+        5 => 2000,
+        7 => domestic(m),
+        8 => industrial(m),
+        _ => 0,
+    }
 }
 
 // Answers the rates of a type, by climate code.

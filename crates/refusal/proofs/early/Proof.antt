@@ -45,11 +45,11 @@ past-7 : (c : tie.Else7) → Past (c .before .before .before .before .before .be
 unfolding faultsOf
 past-7 c = rw (past-6 (c .before .before)) (simp (rw (c .before .is-continued .ensures) at (c .if7 .left)))
 
-past-8 : (c : tie.Else8) → Past (c .before .before .before .before .before .before .before .before .before .before .before .before .before .before) 17
+past-8 : (c : tie.Else8) → Past (c .before .before .before .before .before .before .before .before .before .before .before .before .before .before .before) 17
 unfolding faultsOf
-past-8 c = rw (past-7 (c .before .before .before)) (simp (rw (c .before .is-in-range .ensures, c .before .before .of .ensures) at (c .if8 .left)))
+past-8 c = rw (past-7 (c .before .before .before .before)) (simp (rw (c .before .is-dry-in-range .ensures, c .before .before .is-in-range .ensures, c .before .before .before .of .ensures) at (c .if8 .left)))
 
-past-17 : (c : tie.Else9) → Past (c .before .before .before .before .before .before .before .before .before .before .before .before .before .before .before .before) 9
+past-17 : (c : tie.Else9) → Past (c .before .before .before .before .before .before .before .before .before .before .before .before .before .before .before .before .before) 9
 unfolding faultsOf
 past-17 c = rw (past-8 (c .before .before)) (simp (rw (c .before .is-shared .ensures) at (c .if9 .left)))
 
@@ -68,8 +68,8 @@ early-spec =
     (λ c. rw (past-5 (c .before .before)) (simp (ne-eqb _ _ (rw (c .before .period .ensures) at (c .if6 .taken)))))
     (λ c κs. search needs)
     (λ c. rw (past-6 (c .before .before)) (simp (rw (c .before .is-continued .ensures) at (c .if7 .taken))))
-    (λ c κs. search needs) (λ c κs. search needs)
-    (λ c. rw (past-7 (c .before .before .before)) (simp (rw (c .before .is-in-range .ensures, c .before .before .of .ensures) at (c .if8 .taken))))
+    (λ c κs. search needs) (λ c κs. search needs) (λ c κs. search needs)
+    (λ c. rw (past-7 (c .before .before .before .before)) (simp (rw (c .before .is-dry-in-range .ensures, c .before .before .is-in-range .ensures, c .before .before .before .of .ensures) at (c .if8 .taken))))
     (λ c κs. search needs)
     (λ c. rw (past-8 (c .before .before)) (simp (rw (c .before .is-shared .ensures) at (c .if9 .taken))))
     (λ c. sym (past-17 c)))

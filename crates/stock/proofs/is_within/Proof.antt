@@ -8,14 +8,14 @@ use native.Mathlib.Omega.{arith}
 use borrow.Author.Needs.{needs}
 use borrow.Author.Tests.{ne-eqb, leb-true}
 use lib.Dec.{eqb, leb}
-use Rattle.waste.specs.Waste.{massLimit, mostCarbon, carbonOf}
-use Rattle.waste.proofs.Laws.{carbon-most}
+use Rattle.waste.specs.Waste.{massLimit, mostCarbonOf, mostCarbon}
+use Rattle.waste.proofs.Laws.{highest-most}
 use Rattle.stock.specs.Stock.{mostRecords, ceilingOf, withinOf}
 use Rattle.stock.proofs.is_within.Statement.{statement}
 use Rattle.stock.proofs.is_within.Tie as tie
 
-most : (n t carbon : ℕ) → n ≤ mostRecords → carbon ≡ carbonOf (t + 1) → n * massLimit * carbon ≤ mostRecords * massLimit * mostCarbon
-most n t carbon h e = mul-le-mul {n₂ = mostRecords * massLimit} {m₂ = mostCarbon} (omega arith) (rw e (carbon-most (t + 1)))
+most : (n t carbon : ℕ) → n ≤ mostRecords → carbon ≡ mostCarbonOf (t + 1) → n * massLimit * carbon ≤ mostRecords * massLimit * mostCarbon
+most n t carbon h e = mul-le-mul {n₂ = mostRecords * massLimit} {m₂ = mostCarbon} (omega arith) (rw e (highest-most (t + 1)))
 
 -- beside R at most T, the sum in 64 bits tells what the true sum tells
 true-sum : (high : Bool) (T R released : ℕ) → T < 2 ^ 64 → released < 2 ^ 64

@@ -1,6 +1,9 @@
 -- Each type's group is the one of its number; whatever is left has none.
 use mathlib.Core.Logic.{inl, inr}
-use Rattle.waste.proofs.Laws.{no-group}
+use mathlib.Core.Path.{_≡_, refl}
+use mathlib.Core.List.{_∷_}
+use Rattle.waste.specs.Waste.{groupOf, none}
+use Rattle.waste.proofs.Laws.{other-type}
 use Rattle.waste.proofs.group.Statement.{statement}
 use Rattle.waste.proofs.group.Tie as tie
 
@@ -15,7 +18,7 @@ returns-6 c =
     let no = c .match .rest in
     let not-a = no .0 .0 .0 .1 in
     let not-d = no .0 .0 .1 in
-    rw (no-group (c .before .args .waste) (no .0 .0 .0 .0 .1) (λ e. not-a (inl e)) (λ e. not-d (inl e)) (λ e. not-a (inr e)) (no .0 .1) (λ e. not-d (inr e)) (no .1))
+    other-type (λ w. 0 ∷ none ≡ 0 ∷ groupOf w) refl refl (λ k. refl) (c .before .args .waste) (no .0 .0 .0 .0 .1) (λ e. not-a (inl e)) (λ e. not-d (inl e)) (λ e. not-a (inr e)) (no .0 .1) (λ e. not-d (inr e)) (no .1)
 
 pub group-spec : {M : Type 1} → statement M
 group-spec =

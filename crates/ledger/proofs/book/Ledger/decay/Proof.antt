@@ -30,7 +30,7 @@ within s = taken s .ledger .at (s .args .t) (s .pre .0 .1)
 brings : (c : tie.After-deposit) → c .deposit .result ≤ mostDeposit
 brings c =
     let s = c .before .before in
-    rw (c .deposit .ensures) (deposit-most (s .args .bytes .now) (s .args .t) (taken s .light-each (s .args .t) (s .pre .0 .1)))
+    rw (c .deposit .ensures) (deposit-most (s .args .bytes .now) (s .args .t) (taken s .light-each (s .args .t) (s .pre .0 .1)) (taken s .dry))
 
 left-requires : tie.Need-left-requires
 left-requires c κs =
