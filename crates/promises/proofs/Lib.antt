@@ -13,5 +13,6 @@ pub mod Sorting
 pub mod Months
 pub mod Equation
 pub mod Uncertainties
+pub mod Sludge
 pub mod Proved
 pub mod OneAnswer

@@ -27,7 +27,7 @@ use Rattle.ledger.proofs.Accepted as step
 use Rattle.ledger.proofs.Take.{take-refusal}
 use Rattle.promises.specs.Offering.{Offering, recordsIn}
 use Rattle.promises.specs.Exact.{recordAt}
-use Rattle.promises.specs.Promises.{SameYear, MonthsShare, PastEight, NotTheYears}
+use Rattle.promises.specs.Promises.{SameYear, MonthsShare, NoneAhead, NotTheYears}
 use Rattle.promises.proofs.OneByOne.{withOne, OneByOne, none-yet, one-more, records-more, n-counts}
 use Rattle.promises.proofs.Stocks.{record-earlier, record-latest, all-counted}
 
@@ -123,7 +123,7 @@ not-the-years : (l : Ledger) (bytes : List ℕ) → shares (l .n) (l .year) byte
 not-the-years l bytes e = let u = unshared (l .n) (l .year) bytes e in record { by-month = u .0; mid-year = u .1 .0; unlike = u .1 .1 }
 
 -- where none of 1 to 8 is there, the year decides, and then the masses
-module _ (l : Ledger) (bytes : List ℕ) (room : ℕ) (past : PastEight l bytes room) where
+module _ (l : Ledger) (bytes : List ℕ) (room : ℕ) (past : NoneAhead 17 l bytes room) where
   decides : takeOf l bytes room .refusal ≡ cond (not (shares (l .n) (l .year) bytes)) 17 (cond (not (everyOf (light bytes) 8)) 9 0)
   unfolding refusalOf faultsOf
   decides =

@@ -17,5 +17,5 @@ use Rattle.ledger.specs.Stock
 use Rattle.ledger.specs.Take
 
 pub worked : allOf (map holds rows) ≡ true
-unfolding holds firstRecord firstAnswer power total factorial term E roundedDown entryOf carbonOf rateOf Fields.factorsOf Fields.zerosOf Fields.massOf Fields.depositOf Ranges.coded Ranges.inRange Ranges.light Stock.fresh entryAt Stock.leftOf Stock.held Stock.newStock Stock.release Stock.after Year.yearOf Year.noYear Year.shares Year.remembered Year.soundYear Refusal.emptyAt Refusal.allZero Refusal.sound faultsOf Refusal.refusalOf Take.acceptedOf Take.takeOf
+unfolding holds firstRecord firstAnswer power total factorial term E roundedDown entryOf carbonOf rateOf Fields.factorsOf Fields.dryOf Fields.zerosOf Fields.massOf Fields.depositOf Ranges.coded Ranges.inRange Ranges.dryInRange Ranges.light Stock.fresh entryAt Stock.leftOf Stock.held Stock.newStock Stock.release Stock.after Year.yearOf Year.noYear Year.shares Year.remembered Year.soundYear Refusal.emptyAt Refusal.allZero Refusal.sound faultsOf Refusal.refusalOf Take.acceptedOf Take.takeOf
 worked = refl

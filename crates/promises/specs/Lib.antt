@@ -5,4 +5,5 @@ pub mod Site
 pub mod Worked
 pub mod Sorting
 pub mod Uncertainties
+pub mod Sludge
 pub mod Promises

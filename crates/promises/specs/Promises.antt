@@ -37,6 +37,7 @@ use Rattle.promises.specs.Exact.{inert, recordAt, exactStockAt, exactFig
 use Rattle.promises.specs.WholeRun.{runOver, WholeRun}
 use Rattle.promises.specs.Site.{Call, KeptSite}
 use Rattle.promises.specs.Sorting.{meanShare, Sortable}
+use Rattle.promises.specs.Sludge.{mOf, industrialPercent, domesticPercent, hundredths, defaults, highest, depositBy, soundBy, Dry, AlikeButDry}
 use Rattle.promises.specs.Uncertainties.{V², v, φ, EquationFour, Entered, ByTable, Coded, Determined}
 use Rattle.promises.specs.Worked.{rows, holds}
 
@@ -124,9 +125,9 @@ pub record MonthsShare (o : Offering) : Type 0 where
   -- 'Yearly runs keep these fields zero.'
   pub yearly-zero : o .ledger .kind ≡ 1 → o .ledger .year ≡ noYear
 
--- Nothing that is tested ahead of 17 refuses a record: none of 1 to 8 is there.
-abbrev pub PastEight : Ledger → List ℕ → (room : ℕ) → Type 0
-PastEight l bytes room = firstOf (ahead 17 (faultsOf (sound l) (l .n) (l .kind) (l .climate) (l .year) bytes room)) ≡ 0
+-- Nothing that is tested ahead of a number refuses a record: ahead of 17, none of 1 to 8 is there.
+abbrev pub NoneAhead : (number : ℕ) → Ledger → List ℕ → (room : ℕ) → Type 0
+NoneAhead number l bytes room = firstOf (ahead number (faultsOf (sound l) (l .n) (l .kind) (l .climate) (l .year) bytes room)) ≡ 0
 
 -- A record that is not as the year of a ledger has it: monthly, in the middle of a year, and with another of the three values.
 pub record NotTheYears (l : Ledger) (bytes : List ℕ) : Type 0 where
@@ -164,8 +165,8 @@ pub record Promises : Type 0 where
   pub yearly-not-17 : (l : Ledger) (bytes : List ℕ) (room : ℕ) → kindOf bytes ≡ 1 → takeOf l bytes room .refusal ≡ 17 → ⊥
   -- '17, after 8 and before 9': where none of 1 to 8 is there, it refuses every such record, whatever its masses, and any other is
   -- accepted if its masses are within their limit.
-  pub always-17 : (l : Ledger) (bytes : List ℕ) (room : ℕ) → PastEight l bytes room → NotTheYears l bytes → takeOf l bytes room .refusal ≡ 17
-  pub year-kept : (l : Ledger) (bytes : List ℕ) (room : ℕ) → PastEight l bytes room → (NotTheYears l bytes → ⊥)
+  pub always-17 : (l : Ledger) (bytes : List ℕ) (room : ℕ) → NoneAhead 17 l bytes room → NotTheYears l bytes → takeOf l bytes room .refusal ≡ 17
+  pub year-kept : (l : Ledger) (bytes : List ℕ) (room : ℕ) → NoneAhead 17 l bytes room → (NotTheYears l bytes → ⊥)
       → ((t : ℕ) → t < 8 → massOf bytes t ≤ massLimit) → takeOf l bytes room .refusal ≡ 0
   -- 'P1 to P10 are one table proved with a single statement from the definitions'
   pub worked-figures : allOf (map holds rows) ≡ true
@@ -200,3 +201,16 @@ pub record Promises : Type 0 where
   pub codes-fall : (u u′ : Uncertainties) → byCodes u .refusal ≡ 0 → AtMost u u′ → byCodes u′ .factor ≤ byCodes u .factor
   -- 'For 10, 10, 5, 0, 0, 5 it is 86.'
   pub factor-86 : byPercentages (entering 10 10 5 0 0 5) ≡ record { refusal = 0; factor = 86 }
+  -- Document 02, request f: '0 keeps the default', and the deposit is then as document 01 has it;
+  pub default-kept : (bytes : List ℕ) (t : ℕ) → mOf bytes t ≡ 0 → depositOf bytes t ≡ depositBy bytes t (getD defaults t 0)
+  -- 'and 1 to 100 is a value': DOC is then what source 001 has for it, in hundredths of a percent, rounded down.
+  pub domestic-measured : (bytes : List ℕ) → 1 ≤ mOf bytes 6 → depositOf bytes 6 ≡ depositBy bytes 6 (hundredths (domesticPercent (mOf bytes 6)))
+  pub industrial-measured : (bytes : List ℕ) → 1 ≤ mOf bytes 7 → depositOf bytes 7 ≡ depositBy bytes 7 (hundredths (industrialPercent (mOf bytes 7)))
+  -- '8 also covers m over 100', whatever the mass: where none of 1 to 7 is there, such a record is refused with 8.
+  pub over-100 : (l : Ledger) (bytes : List ℕ) (room : ℕ) → NoneAhead 8 l bytes room → (Dry bytes → ⊥) → takeOf l bytes room .refusal ≡ 8
+  -- '5 looks only at bytes 14 and 15': no refusal looks at an m of 0 to 100.
+  pub dry-free : (l : Ledger) (one other : List ℕ) (room : ℕ) → AlikeButDry one other → Dry one → Dry other
+      → takeOf l one room .refusal ≡ takeOf l other room .refusal
+  -- 'and 3 uses DOC 5000 and 2571 for types 7 and 8 in its ceiling on T'; what was sound by document 01's DOC still is.
+  pub sound-by : (l : Ledger) → sound l ≡ soundBy highest l
+  pub still-sound : (l : Ledger) → soundBy defaults l ≡ true → sound l ≡ true

@@ -10,6 +10,7 @@ use Rattle.record.proofs.factor.Reads as factor
 use Rattle.record.proofs.class.Reads as class
 use Rattle.record.proofs.captured.Reads as captured
 use Rattle.record.proofs.is_coded.Reads as is-coded
+use Rattle.record.proofs.is_dry_in_range.Reads as is-dry-in-range
 use Rattle.record.proofs.is_light.Reads as is-light
 use Rattle.record.proofs.deposit.Reads as deposit
 use Rattle.promises.proofs.OneAnswer.{OneAnswer, by-equation}
@@ -46,6 +47,9 @@ captured-one = by-equation (λ κs a r s p. p)
 
 pub is-coded-one : OneAnswer is-coded.Learnt
 is-coded-one = by-equation (λ κs a r s p. p)
+
+pub is-dry-in-range-one : OneAnswer is-dry-in-range.Learnt
+is-dry-in-range-one = by-equation (λ κs a r s p. p)
 
 pub is-light-one : OneAnswer is-light.Learnt
 is-light-one = by-equation (λ κs a r s p. p)
