@@ -8,8 +8,8 @@ import cases
 import reference
 from built import offer_in_year, run_case, run_in_year, step_case, step_in_year
 from cases import case
-from faults import FAULTS, Offer, applied, of_field
-from histories import KINDS_AND_CLIMATES, PLACES, PLAIN, balanced, ceilings, damaged, file_of, greatest_record, only
+from faults import FAULTS, Offer, applied, named, of_field
+from histories import KINDS_AND_CLIMATES, PLACES, PLAIN, balanced, by_default, damaged, file_of, greatest_record, only
 from histories import plain_year, random_file, random_ledger, random_record, replaced
 from reference import BYTES, FRESH, MASS_LIMIT, NO_YEAR, RECORDS, Ledger, little, remembers, write_record
 
@@ -52,14 +52,14 @@ def worked_figures():
 
 
 def steps_at_fault(rng):
-    """Each fault alone; a fault of each pair of fields, the lower number winning; one of each number from each on."""
+    """Each fault alone; a fault of each pair of fields; one of each number from each on."""
     for fault in FAULTS:
-        yield offer_in_year(applied(fair_offer(rng), [fault]), fault.number)
+        yield offer_in_year(applied(fair_offer(rng), [fault]), named(fault))
     fields = dict.fromkeys((fault.number, fault.field) for fault in FAULTS)
     for one, other in combinations(fields, 2):
         if one[0] != other[0] and one[1] != other[1]:
             pair = rng.choice(of_field(*one)), rng.choice(of_field(*other))
-            yield offer_in_year(applied(fair_offer(rng), pair), one[0])
+            yield offer_in_year(applied(fair_offer(rng), pair), named(*pair))
     each = "length", "room", "R", "n", "site_class", "period", "kind", "GWP", "masses"
     for least in range(1, 10):
         rest = [rng.choice(of_field(number, field)) for number, field in enumerate(each, 1) if number >= least]
@@ -67,8 +67,8 @@ def steps_at_fault(rng):
 
 
 def steps_at_limits(rng):
-    """Records and ledgers at every limit that is still allowed."""
-    middle = Ledger(7, 1, 3, NO_YEAR, ceilings(1), ceilings(1))
+    """Records and ledgers at every limit that is still allowed, and T at the most that it is without dry matter."""
+    middle = Ledger(7, 1, 3, NO_YEAR, by_default(1), by_default(1))
     record = PLAIN._replace(period=8, climate=3, masses=(1000, 0, 7, 0, 0, 5, 0, 1))
     limits = {
         "factor": (1, 100),
@@ -82,12 +82,12 @@ def steps_at_limits(rng):
     }
     offers = [(middle, record._replace(**{field: value})) for field, values in limits.items() for value in values]
     for j in PLACES:
-        full = middle._replace(T=replaced(middle.T, j, ceilings(7)[j]))
+        full = middle._replace(T=replaced(middle.T, j, by_default(7)[j]))
         offers += [(full, record), (full._replace(R=full.T), record), (full._replace(R=replaced(full.R, j, 0)), record)]
     for kind, climate in KINDS_AND_CLIMATES:
         offers += [(FRESH, PLAIN._replace(kind=kind, climate=climate))]
         for n in (1, 1199):
-            full = Ledger(n, kind, climate, plain_year(kind), ceilings(n), ceilings(n))
+            full = Ledger(n, kind, climate, plain_year(kind), by_default(n), by_default(n))
             offers += [(full, greatest_record(n, kind, climate))]
     for ledger, record in offers:
         yield step_in_year(balanced(ledger), write_record(record), expect=0)
@@ -141,7 +141,7 @@ def follower_of(rng, ledger):
 def runs_by_rule(rng):
     """No bytes, room that ends, bytes left over, each fault of a record, and the last records that a ledger takes."""
     unsound = balanced(Ledger(1, 1, 1, R=only(1, 1)))
-    beyond = Ledger(65535, 255, 255, NO_YEAR, ceilings(9), ceilings(9))
+    beyond = Ledger(65535, 255, 255, NO_YEAR, by_default(9), by_default(9))
     for ledger in (FRESH, random_ledger(rng, 1, 2), unsound, beyond):
         yield run_in_year(ledger, b"", 0, (0, 0))
         yield run_in_year(ledger, b"", 50, (0, 0))
@@ -174,12 +174,13 @@ def runs_by_rule(rng):
 
 
 def fault_after_one(rng, fault):
-    """A run of a record that is accepted, one at fault, and one more that is not reached."""
+    """A run of a record that is accepted, one at fault, and one more that is not reached where that is a fault."""
     first = fair_offer(rng)
     after, _ = reference.take(first.ledger, first.record)
     second = applied(Offer(after, first.record._replace(period=after.n + 1)), [fault])
     third = first.record._replace(period=after.n + 2)
-    return run_in_year(first.ledger, first.data() + second.data() + write_record(third), 150, (1, fault.number))
+    expect = (1, named(fault)) if named(fault) else (3, 0)
+    return run_in_year(first.ledger, first.data() + second.data() + write_record(third), 150, expect)
 
 
 def runs_at_random(rng):

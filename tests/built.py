@@ -1,4 +1,4 @@
-"""Cases of steps and runs, each built for its answer: one that the reference does not give is an error here.
+"""Cases of steps, runs and listings, each built for its answer: one that the reference does not give is an error here.
 
 Those in a year take a ledger without regard to what it remembers, and put it into the year of the first record offered.
 """
@@ -23,6 +23,16 @@ def run_case(ledger, data, room, expect=None):
     if expect not in (None, found):
         raise SystemExit(f"run built for {expect}, found {found}: {ledger} room {room}")
     return case("r", cases.image(ledger) + little([(room, 4)]) + data)
+
+
+def listing_case(data, expect):
+    """A listing; expect is the accepted count and the refusal that it is built for."""
+    accepted, refusal = expect
+    found = reference.listing(data).splitlines()[-1]
+    as_built = found == f"refused {refusal} at record {accepted + 1}" if refusal else found.startswith(f"{accepted} ")
+    if not as_built:
+        raise SystemExit(f"listing built for {expect}, found {found}")
+    return case("l", data)
 
 
 def offer_case(offer, expect):

@@ -1,11 +1,15 @@
-"""Every fault that document 01 lists under "Refusal numbers", each as a change to an offer that would be accepted."""
+"""Every fault that document 01 lists under "Refusal numbers", each as a change to an offer that would be accepted.
+
+Request f of document 02 takes some of them back, and gives some another number.
+"""
 from collections.abc import Callable
 from typing import NamedTuple
 
-from histories import PLACES, balanced, ceilings, replaced
+from histories import PLACES, balanced, by_default, replaced
 from reference import BYTES, FRESH, MASS_LIMIT, RECORDS, Ledger, Record, little, write_record
 
 LAST = 2**64 - 1
+ORDER = (1, 2, 3, 4, 5, 6, 7, 8, 17, 9)  # in which a step tests its refusals
 
 
 class Offer(NamedTuple):
@@ -24,6 +28,7 @@ class Fault(NamedTuple):
     number: int  # of the refusal
     field: str
     change: Callable  # from an offer to one with this fault
+    instead: int | None = None  # the refusal by request f, where it is another; 0 for none
 
 
 def at_n(number, n):
@@ -55,8 +60,15 @@ def in_offer(number, field, *values):
     return [Fault(number, field, lambda o, v=v: o._replace(**{field: v})) for v in values]
 
 
+def four_bytes(data):
+    """Bytes 12 to 15, which document 01 has zero; by request f the first two are m of types 7 and 8."""
+    fields = {"m7": data[0], "m8": data[1], "zero": data[2:]}
+    number = 5 if any(data[2:]) else 8 if max(data) > 100 else 0
+    return Fault(5, "zero", lambda o: o._replace(record=changed(o.record, fields, o)), number)
+
+
 def brought(j, top):
-    return in_ledger("T", T=lambda ledger: replaced(ledger.T, j, top(ceilings(ledger.n)[j])))
+    return in_ledger("T", T=lambda ledger: replaced(ledger.T, j, top(by_default(ledger.n)[j])))
 
 
 def left(j, top):
@@ -85,16 +97,17 @@ FAULTS = [
     *(not_fresh(T=replaced(FRESH.T, j, 2**63), R=replaced(FRESH.R, j, 2**63)) for j in PLACES),
     *(in_ledger("ledger kind", kind=kind) for kind in (0, 3, 255)),
     *(in_ledger("ledger climate", climate=climate) for climate in (0, 5, 255)),
-    *(brought(j, lambda ceiling: ceiling + 1) for j in PLACES),
-    *(brought(j, lambda ceiling: LAST) for j in PLACES),
+    *(brought(j, lambda default: default + 1) for j in PLACES[:6]),
+    *(brought(j, lambda default: default + 1)._replace(instead=0) for j in PLACES[6:]),
+    *(brought(j, lambda default: LAST) for j in PLACES),
     *(left(j, lambda T: T + 1) for j in PLACES),
     *(left(j, lambda T: LAST) for j in PLACES),
     at_n(4, RECORDS),
     *in_record(5, "kind", 0, 3, 255),
     *in_record(5, "climate", 0, 5, 255),
     *in_record(5, "site_class", 0, 5, 255),
-    *in_record(5, "zero", *(little([(byte << 8 * at, 4)]) for at in range(4) for byte in (1, 128, 255))),
-    *in_record(5, "zero", bytes([128, 128, 0, 0]), bytes([0, 0, 1, 255]), bytes([255] * 4)),
+    *(four_bytes(little([(byte << 8 * at, 4)])) for at in range(4) for byte in (1, 128, 255)),
+    *map(four_bytes, (bytes([128, 128, 0, 0]), bytes([0, 0, 1, 255]), bytes([255] * 4))),
     *in_record(6, "period", 0, 65535, *map(shifted_period, (-1, 1, 256, 32768))),
     *in_record(7, "kind", lambda offer: 3 - offer.record.kind),
     *in_record(7, "climate", *map(other_climate, (1, 2, 3))),
@@ -106,6 +119,12 @@ FAULTS = [
     *in_record(8, "f", 10001, 10240, 65535),
     *in_record(9, "masses", *(one_mass(j, kg) for j in PLACES for kg in (MASS_LIMIT + 1, 2**31, 2**32 - 1))),
 ]
+
+
+def named(*faults):
+    """The refusal that an offer with these faults meets."""
+    met = {fault.number if fault.instead is None else fault.instead for fault in faults}
+    return next((number for number in ORDER if number in met), 0)
 
 
 def of_field(number, field):

@@ -1,10 +1,11 @@
 """Records, files and ledgers to offer: at random, and at the limits of document 01."""
-from reference import BYTES, CLIMATES, DOC, FRESH, KINDS, MASS_LIMIT, MONTHLY, MONTHS, NO_YEAR, NONE, Ledger, Record
-from reference import Year, read_record, records_of, remembers, take, write_record, year_of
+from reference import BYTES, CLIMATES, DOC, FRESH, KINDS, MASS_LIMIT, MONTHLY, MONTHS, MOST_DOC, NO_YEAR, NONE, Ledger
+from reference import Record, Year, read_record, records_of, remembers, take, write_record, year_of
 
 PLACES = range(8)
 KINDS_AND_CLIMATES = [(kind, climate) for kind in KINDS for climate in CLIMATES]
-PLAIN = Record(1, 1, 4, 75, 10, 50, 50, 1, 28, 0, bytes(4), (0,) * 8)  # the factors of document 01's listing, no waste
+UNMEASURED = 0, 0, bytes(2)  # bytes 12 to 15 of a record without dry matter
+PLAIN = Record(1, 1, 4, 75, 10, 50, 50, 1, 28, 0, *UNMEASURED, NONE)  # the factors of document 01's listing, no waste
 RANGES = {"factor": (1, 100), "site_class": (1, 4), "f": (0, 10000)}  # of the year's factors
 
 
@@ -18,9 +19,14 @@ def only(place, kg):
     return replaced((0,) * 8, place - 1, kg)
 
 
-def ceilings(n):
+def ceilings(n, contents=MOST_DOC):
     """The most that T may be after n records, for each type."""
-    return tuple(n * MASS_LIMIT * doc * 100 for doc in DOC)
+    return tuple(n * MASS_LIMIT * doc * 100 for doc in contents)
+
+
+def by_default(n):
+    """The most that T comes to after n records without dry matter, for each type."""
+    return ceilings(n, DOC)
 
 
 def balanced(ledger):
@@ -29,9 +35,9 @@ def balanced(ledger):
     return ledger._replace(released=released if ledger.n > 0 else NONE)
 
 
-def greatest_record(n, kind, climate):
-    """The record after n others that gives the greatest figure and bound."""
-    return Record(n + 1, kind, climate, 100, 0, 100, 100, 1, 100, 0, bytes(4), (MASS_LIMIT,) * 8)
+def greatest_record(n, kind, climate, m=0):
+    """The record after n others that gives the greatest figure and bound, with this dry matter of both sludges."""
+    return Record(n + 1, kind, climate, 100, 0, 100, 100, 1, 100, 0, m, m, bytes(2), (MASS_LIMIT,) * 8)
 
 
 def file_of(records):
@@ -50,16 +56,31 @@ def random_masses(rng):
 
 
 def random_record(rng, n, kind, climate):
-    """A record that a sound ledger with n records of this kind and climate accepts; a month where it begins a year."""
+    """A record that a sound ledger with n records of this kind and climate accepts; a month where it begins a year.
+
+    It has no dry matter.
+    """
     factor, GWP, OX, F, DOCf = (rng.choice((1, 100, rng.randint(1, 100))) for _ in range(5))
     f = rng.choice((0, rng.randint(0, 10000), rng.randint(0, 10000), 9999))
     site_class, masses = rng.randint(1, 4), random_masses(rng)
-    return Record(n + 1, kind, climate, factor, OX - 1, F, DOCf, site_class, GWP, f, bytes(4), masses)
+    return Record(n + 1, kind, climate, factor, OX - 1, F, DOCf, site_class, GWP, f, *UNMEASURED, masses)
+
+
+def measured(rng, record):
+    """The record with any dry matter of the two sludges, or none."""
+    m7, m8 = (rng.choice((0, 1, 100, rng.randint(1, 100), rng.randint(1, 100))) for _ in range(2))
+    return record._replace(m7=m7, m8=m8)
 
 
 def random_file(rng, n, kind, climate, records):
     """The bytes of records that follow n others; months of one year each have factors of their own."""
     return file_of(random_record(rng, n + i, kind, climate) for i in range(records))
+
+
+def hit(rng, data, places):
+    """A file with a byte of one record changed, at one of these places."""
+    at = rng.randrange(0, len(data), BYTES) + rng.choice(places)
+    return data[:at] + bytes([rng.randrange(256)]) + data[at + 1 :]
 
 
 def damaged(rng, data):
@@ -87,12 +108,12 @@ def lived(rng, kind, climate, periods):
     return taken(FRESH, (random_record(rng, n, kind, climate) for n in range(periods)))
 
 
-def random_ledger(rng, kind, climate, n=None):
-    """A sound ledger in the middle of a history: lived through, or any within its ceilings."""
+def random_ledger(rng, kind, climate, n=None, tops=by_default):
+    """A sound ledger in the middle of a history: lived through, or any with no T over its top."""
     if n is None and rng.random() < 0.5:
         return lived(rng, kind, climate, rng.randint(1, 20))
     n = n or rng.choice((1, 2, 255, 256, rng.randint(1, 1180)))
-    T = tuple(rng.randint(0, top) >> rng.choice((0, 0, 10, 40, 64)) for top in ceilings(n))
+    T = tuple(rng.randint(0, top) >> rng.choice((0, 0, 10, 40, 64)) for top in tops(n))
     R = tuple(rng.choice((0, t, rng.randint(0, t))) for t in T)
     return balanced(Ledger(n, kind, climate, plain_year(kind), T, R))
 
@@ -128,6 +149,11 @@ def next_records(rng, ledger, kind, climate, count):
         records.append(next_record(rng, ledger, kind, climate))
         ledger = taken(ledger, records[-1:])
     return records
+
+
+def next_measured(rng, ledger, kind, climate, count):
+    """The same with any dry matter."""
+    return [measured(rng, record) for record in next_records(rng, ledger, kind, climate, count)]
 
 
 def random_year(rng):

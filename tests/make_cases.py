@@ -1,10 +1,11 @@
 #!/usr/bin/env python3
 """Writes cases for the program `cases` (docs/CASES.md), and the lines that the reference gives for them.
 
-  make_cases.py [--group base|door|samples|released|months|uncertainty|all|every-sum|every-rate] [--seed N] [--out DIR]
+  make_cases.py [--group GROUP] [--seed N] [--out DIR]
   make_cases.py --store
   make_cases.py --check
 
+GROUP is base, door, samples, released, months, uncertainty, sludge, all of these, every-sum or every-rate.
 DIR gets cases.bin and cases.txt, and a pair stop-*.bin, stop-*.txt for each way in which input cannot be read.
 Every run with the same seed writes the same bytes; the stored cases are those of all groups with seed 1. Two groups
 are not among them: every-sum has a case for each sum of squares that uncertainties come to, every-rate a look-up of
@@ -26,11 +27,12 @@ from months_cases import months
 from reference import listing, little
 from released_cases import released
 from samples_cases import samples
+from sludge_cases import sludge
 from uncertainty_cases import every_sum, uncertainty
 
 ROOT = os.path.join(os.path.dirname(os.path.abspath(__file__)), "..")
 GROUPS = {"base": [base], "door": [door], "samples": [samples], "released": [released], "months": [months]}
-GROUPS["uncertainty"] = [uncertainty]
+GROUPS |= {"uncertainty": [uncertainty], "sludge": [sludge]}
 GROUPS["all"] = [cases_of for group in GROUPS.values() for cases_of in group]
 GROUPS["every-sum"] = [every_sum]
 GROUPS["every-rate"] = [every_rate]

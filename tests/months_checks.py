@@ -50,7 +50,7 @@ def in_order():
     """A month with other values and one fault more: 1 to 8 are named before 17, and 9 after it."""
     late = {"period": 3, "kind": 2, **OTHERS}
     for number, changes in [
-        (5, {"zero": b"\0\0\0\1"}),
+        (5, {"zero": b"\0\1"}),
         (6, {"period": 4}),
         (7, {"climate": 3}),
         (7, {"kind": 1}),

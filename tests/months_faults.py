@@ -4,7 +4,7 @@ from itertools import combinations, product
 import cases
 import faults
 from built import offer_case, run_case, step_case
-from faults import Fault, Offer, applied, of_field
+from faults import Fault, Offer, applied, named, of_field
 from histories import RANGES, another, file_of, moved, next_record, next_records, random_ledger, random_year, sharing
 from histories import taken
 from reference import BYTES, CLIMATES, FRESH, KINDS, MONTHLY, MONTHS, NO_YEAR, RECORDS, YEARLY, Year, little
@@ -66,24 +66,25 @@ def at_fault(rng):
         yield offer_case(applied(within_year(rng), [in_month(one, 1), in_month(other, 1)]), 17)
     for fault in faults.FAULTS:
         other = rng.choice([other for other in OTHERS if other.field != fault.field])
-        yield offer_case(applied(within_year(rng), [fault, other]), 17 if fault.number == 9 else fault.number)
+        yield offer_case(applied(within_year(rng), [fault, other]), named(fault, other))
     for number, field in FIELDS:
         pair = rng.choice(of_field(number, field)), rng.choice(UNSOUND)
-        yield offer_case(applied(within_year(rng), pair), min(number, 3))
+        yield offer_case(applied(within_year(rng), pair), named(*pair))
 
 
 def stopped(rng):
-    """Months that would begin a year and are refused: what was remembered stays. The same in runs, then 17 in them."""
+    """Months that would begin a year, with a fault: refused, they leave what is remembered. In runs too, then 17."""
     for number, field in FIELDS:
         if number in (1, 2) or number >= 5:
-            offer = offer_at(rng, MONTHS * rng.randint(1, 99))
-            yield offer_case(applied(offer, [rng.choice(of_field(number, field))]), number)
+            offer, fault = offer_at(rng, MONTHS * rng.randint(1, 99)), rng.choice(of_field(number, field))
+            yield offer_case(applied(offer, [fault]), named(fault))
     months = next_records(rng, FRESH, MONTHLY, rng.choice(CLIMATES), 14)
     begun, last = file_of(months[:12]), Offer(taken(FRESH, months[:12]), months[12])
     for number, field in FIELDS:
         if number >= 5:
-            data = applied(last, [rng.choice(of_field(number, field))]).data()
-            yield run_case(FRESH, begun + data + file_of(months[13:]), 14 * BYTES, (12, number))
+            fault = rng.choice(of_field(number, field))
+            data = begun + applied(last, [fault]).data() + file_of(months[13:])
+            yield run_case(FRESH, data, 14 * BYTES, (12, named(fault)) if named(fault) else (14, 0))
     change = write_record(another(rng, months[12], "f")._replace(period=14))
     data = begun + last.data() + change
     yield run_case(FRESH, data + b"\0", 14 * BYTES, (13, 17))

@@ -1,4 +1,4 @@
-"""Document 01 with requests a to d of document 02 worked out a second time, to run the Rattle code against.
+"""Document 01 with requests a to d and f of document 02 worked out a second time, to run the Rattle code against.
 
 One function for each rule, in the documents' order and with their letters. Numbers are exact, and everything is a
 value: an output buffer goes in as bytes and comes back as bytes. Type j stands at place j - 1 of every list of eight.
@@ -64,6 +64,8 @@ class Record(NamedTuple):
     site_class: int
     GWP: int
     f: int
+    m7: int  # organic dry matter of type 7 in percent, 0 where it is not measured
+    m8: int  # the same of type 8
     zero: bytes
     masses: tuple
 
@@ -76,12 +78,12 @@ def number(data, at, width):
 def read_record(data):
     """The fields of 48 bytes."""
     masses = tuple(number(data, at, 4) for at in range(16, 48, 4))
-    return Record(number(data, 0, 2), *data[2:10], number(data, 10, 2), data[12:16], masses)
+    return Record(number(data, 0, 2), *data[2:10], number(data, 10, 2), *data[12:14], data[14:16], masses)
 
 
 def write_record(record):
     """The 48 bytes of a record's fields."""
-    numbers = [(record.period, 2), *((byte, 1) for byte in record[1:9]), (record.f, 2)]
+    numbers = [(record.period, 2), *((byte, 1) for byte in record[1:9]), (record.f, 2), (record.m7, 1), (record.m8, 1)]
     return little(numbers) + record.zero + little((mass, 4) for mass in record.masses)
 
 
@@ -127,7 +129,7 @@ class Step(NamedTuple):
 
 def deposits(record):
     """The carbon that a record brings, in mg for each type."""
-    return tuple(mass * doc * 100 for mass, doc in zip(record.masses, DOC))
+    return tuple(mass * doc * 100 for mass, doc in zip(record.masses, DOC_of(record)))
 
 
 def take(ledger, record):
@@ -214,7 +216,7 @@ def sound(ledger):
         ledger.n <= RECORDS
         and ledger.kind in KINDS
         and ledger.climate in CLIMATES
-        and all(t <= ledger.n * MASS_LIMIT * doc * 100 for t, doc in zip(ledger.T, DOC))
+        and all(t <= ledger.n * MASS_LIMIT * doc * 100 for t, doc in zip(ledger.T, MOST_DOC))
         and all(r <= t for r, t in zip(ledger.R, ledger.T))
         and all(released + r == t for released, r, t in zip(ledger.released, ledger.R, ledger.T))
         and remembers(ledger)
@@ -224,12 +226,12 @@ def sound(ledger):
 def is_coded(record):
     """Whether refusal 5 does not hold."""
     coded = record.kind in KINDS and record.climate in CLIMATES and record.site_class in CLASSES
-    return coded and record.zero == bytes(4)
+    return coded and record.zero == bytes(2)
 
 
 def in_range(record):
     """Whether refusal 8 does not hold."""
-    percents = all(byte <= 100 for byte in (record.OX, record.F, record.DOCf))
+    percents = all(byte <= 100 for byte in (record.OX, record.F, record.DOCf, record.m7, record.m8))
     return percents and 1 <= record.factor <= 100 and 1 <= record.GWP <= 100 and record.f <= 10000
 
 
@@ -442,3 +444,15 @@ def factor_by_codes(a, b, c, d, e, g):
     if not are_choices(c, d, e, g):
         return 19, 0
     return factor_of(a, b, *chosen(c, d, e, g))
+
+
+# Document 02, request f: sludge with a measured dry matter
+
+MOST_DOC = (*DOC[:6], 5000, 2571)  # in refusal 3's ceiling on T
+
+
+def DOC_of(record):
+    """DOC of the eight types: that of a sludge follows its dry matter m, where 0 keeps the default."""
+    domestic = 50 * record.m7 if record.m7 else DOC[6]
+    industrial = 900 * record.m8 // 35 if record.m8 else DOC[7]
+    return *DOC[:6], domestic, industrial

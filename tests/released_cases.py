@@ -6,8 +6,8 @@ import cases
 import faults
 from base_cases import arbitrary_ledger, byte_changed, fair_offer, follower_of
 from built import offer_in_year, run_in_year, step_case, step_in_year
-from faults import LAST, Fault, Offer, applied, not_fresh
-from histories import KINDS_AND_CLIMATES, PLACES, PLAIN, balanced, ceilings, damaged, file_of, lived, only
+from faults import LAST, Fault, Offer, applied, named, not_fresh
+from histories import KINDS_AND_CLIMATES, PLACES, PLAIN, balanced, by_default, damaged, file_of, lived, only
 from histories import plain_year, random_file, random_record, replaced, taken, whole_records
 from reference import BYTES, FRESH, MASS_LIMIT, NONE, RECORDS, Ledger, little, write_record
 
@@ -15,7 +15,7 @@ from reference import BYTES, FRESH, MASS_LIMIT, NONE, RECORDS, Ledger, little, w
 def half_spent(rng, kind, climate):
     """A ledger in the middle of its history: of every type but the sixth some carbon is left and some released."""
     n = rng.choice((1, 2, rng.randint(3, RECORDS - 10)))
-    T = tuple(rng.randint(2, top) if top else 0 for top in ceilings(n))
+    T = tuple(rng.randint(2, top) if top else 0 for top in by_default(n))
     R = tuple(rng.randint(1, t - 1) if t else 0 for t in T)
     return balanced(Ledger(n, kind, climate, plain_year(kind), T, R))
 
@@ -77,7 +77,7 @@ def at_fault(rng):
     for fault in faults.FAULTS:
         if fault.field not in ("T", "R"):
             pair = fault, rng.choice(NOT_ADDED_UP)
-            yield offer_in_year(applied(spent_offer(rng), pair), min(fault.number, 3))
+            yield offer_in_year(applied(spent_offer(rng), pair), named(*pair))
 
 
 def sound(rng):
@@ -87,7 +87,7 @@ def sound(rng):
         n, *_, T, R, released = ledger
         ledgers = [ledger._replace(R=released, released=R), ledger._replace(R=T, released=NONE)]
         ledgers += [ledger._replace(R=NONE, released=T), Ledger(n, kind, climate)]
-        ledgers += [ledger._replace(T=ceilings(n), R=NONE, released=ceilings(n))]
+        ledgers += [ledger._replace(T=by_default(n), R=NONE, released=by_default(n))]
         j = rng.choice(PLACES)
         ledgers += [ledger._replace(R=replaced(R, j, released[j]), released=replaced(released, j, R[j]))]
         for each in ledgers:
@@ -120,7 +120,8 @@ def stopped(rng):
         for number in range(5, 10):
             fault = rng.choice([fault for fault in faults.FAULTS if fault.number == number])
             last = applied(follower, [fault]).data()
-            yield run_in_year(ledger, data + last + follower.data(), 4 * BYTES, (3, number))
+            expect = (3, named(fault)) if named(fault) else (4, 2)
+            yield run_in_year(ledger, data + last + follower.data(), 4 * BYTES, expect)
         unsound = one_off(rng, ledger, j)
         yield run_in_year(unsound, data, 3 * BYTES, (0, 3))
         yield run_in_year(unsound, data, BYTES - 1, (0, 2))

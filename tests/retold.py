@@ -7,7 +7,7 @@ from decimal import Context, Decimal
 from fractions import Fraction
 from math import floor, isqrt
 
-# Source 001, parameter DOC_j, "Default values for DOC_j": % of wet waste. Of the sludges the same cell speaks in words.
+# Source 001, parameter DOC_j, "Default values for DOC_j": % of wet waste.
 DOC = {
     "Wood and wood products": "43",
     "Pulp, paper and cardboard (other than sludge)": "40",
@@ -15,9 +15,10 @@ DOC = {
     "Textiles": "24",
     "Garden, yard and park waste": "20",
     "Glass, plastic, metal, other inert waste": "0",
-    "industrial sludge": "9",
-    "domestic sludge": "5",
 }
+
+# The same cell in words, (2) and (3): % of wet sludge, and the % of organic dry matter that this default assumes.
+SLUDGES = {"industrial sludge": ("9", "35"), "domestic sludge": ("5", "10")}
 
 # Source 002, parameter k_i, 1/yr: boreal and temperate dry and wet, tropical dry and wet.
 RATES = {
@@ -36,7 +37,7 @@ MCF = {
     "unmanaged-shallow solid waste disposal sites or stockpiles that are considered SWDS": "0.4",
 }
 
-# The types of document 01 in its order: the row of DOC and the row of RATES, None where nothing decays.
+# The types of document 01 in its order: the row of DOC or of SLUDGES, and the row of RATES, None where nothing decays.
 TYPES = (
     ("Wood and wood products", "Wood, wood products and straw"),
     ("Pulp, paper and cardboard (other than sludge)", "Pulp, paper, cardboard (other than sludge), textiles"),
@@ -70,9 +71,25 @@ DIGITS = Context(prec=50)
 PARTS = 10**12  # of 1, in which the root of equation (3) is enclosed
 
 
-def carbon(masses):
+def of_sludge(row, matter):
+    """DOC_j (% wet sludge) = default * (% organic dry matter content / assumed), where 0 says that it is not known."""
+    default, assumed = map(Fraction, SLUDGES[row])
+    return default * ((matter or assumed) / assumed)
+
+
+def contents(domestic=0, industrial=0):
+    """DOC of the eight types in %, rounded down to hundredths, with the organic dry matter of the sludges in %."""
+    exact = {
+        **{row: Fraction(percent) for row, percent in DOC.items()},
+        "domestic sludge": of_sludge("domestic sludge", domestic),
+        "industrial sludge": of_sludge("industrial sludge", industrial),
+    }
+    return tuple(Fraction(floor(exact[row] * 100), 100) for row, _ in TYPES)
+
+
+def carbon(masses, *matter):
     """The carbon of eight masses in kg, in mg."""
-    return tuple(kg * 10**6 * Fraction(DOC[row]) / 100 for kg, (row, _) in zip(masses, TYPES, strict=True))
+    return tuple(kg * 10**6 * percent / 100 for kg, percent in zip(masses, contents(*matter), strict=True))
 
 
 def rates(climate):
@@ -121,7 +138,7 @@ def bound(record, n, T):
 
 def step(ledger, record):
     """T, R and what is gone of T after an accepted record, the releases, x0, figure and bound."""
-    brought = carbon(record.masses)
+    brought = carbon(record.masses, record.m7, record.m8)
     T = tuple(map(sum, zip(ledger.T, brought)))
     H = tuple(map(sum, zip(ledger.R, brought)))
     kept = [Fraction(entry(record.kind, k) if k else 0, 10**9) for k in rates(record.climate)]

@@ -1,8 +1,8 @@
 #!/usr/bin/env python3
 """Holds the reference to all that document 01 prints, to the sources' own tables and equations, and to demand 3.
 
-Of document 02 it holds masses from samples, the carbon released so far, months that share the year's factors, and the
-correction factor from uncertainties.
+Of document 02 it holds masses from samples, the carbon released so far, months that share the year's factors, the
+correction factor from uncertainties, and sludge with a measured dry matter.
 
 Prints ok and exits 0, or stops at the first check that fails.
 """
@@ -20,11 +20,13 @@ import months_checks
 import reference
 import retold
 import samples_cases
+import sludge_checks
 import uncertainty_checks
-from checks import NO_VALUES, NOTHING, ROOM, check, offered
+from checks import NO_VALUES, NOTHING, ROOM, check, fields_of, offered, told_again
 from faults import applied
-from histories import KINDS_AND_CLIMATES, PLAIN, balanced, damaged, file_of, next_record, next_records, only, replaced
-from reference import FRESH, Ledger, Record, Year, decay, deposits, rates, read_record, step, write_record
+from histories import KINDS_AND_CLIMATES, PLAIN, balanced, damaged, file_of, measured, next_measured, next_record, only
+from histories import replaced
+from reference import FRESH, Ledger, Year, decay, deposits, rates, step, write_record
 from samples_cases import fair_sorting
 
 HERE = os.path.dirname(os.path.abspath(__file__))
@@ -32,7 +34,7 @@ HERE = os.path.dirname(os.path.abspath(__file__))
 
 def constants():
     """The constants of the reference are those of the sources' tables, in document 01's units."""
-    check("DOC", reference.DOC, tuple(int(retold.DOC[row]) * 100 for row, _ in retold.TYPES))
+    check("DOC", reference.DOC, tuple(percent * 100 for percent in retold.contents()))
     for climate in (1, 2, 3, 4):
         check(f"rates of climate {climate}", rates(climate), tuple(k * 1000 for k in retold.rates(climate)))
     check("MCF", reference.MCF, tuple(Fraction(factor) * 100 for factor in retold.MCF.values()))
@@ -71,7 +73,7 @@ def in_whole_numbers():
 def allowed():
     """The table of "One record": every value of every byte, the edges of the wider fields, and the refusal outside."""
     codes = {"kind": 2, "climate": 4, "site_class": 4}  # from 1 up to this
-    ranges = {"factor": 1, "OX": 0, "F": 0, "DOCf": 0, "GWP": 1}  # from this up to 100
+    ranges = {"factor": 1, "OX": 0, "F": 0, "DOCf": 0, "GWP": 1, "m7": 0, "m8": 0}  # from this up to 100
     fields = [(field, 1, high, 5) for field, high in codes.items()]
     fields += [(field, low, 100, 8) for field, low in ranges.items()]
     for field, low, high, number in fields:
@@ -79,8 +81,8 @@ def allowed():
             check(f"{field} {value}", offered(**{field: value}).refusal, 0 if low <= value <= high else number)
     for f, number in [(0, 0), (9999, 0), (10000, 0), (10001, 8), (65535, 8)]:
         check(f"f {f}", offered(f=f).refusal, number)
-    for bit in range(32):
-        check(f"bit {bit} of bytes 12-15", offered(zero=(1 << bit).to_bytes(4, "little")).refusal, 5)
+    for bit in range(16):
+        check(f"bit {bit} of bytes 14-15", offered(zero=(1 << bit).to_bytes(2, "little")).refusal, 5)
     for place in range(1, 9):
         for kg, number in [(10**9, 0), (10**9 + 1, 9), (2**32 - 1, 9)]:
             check(f"mass {kg}", offered(masses=only(place, kg)).refusal, number)
@@ -97,7 +99,7 @@ def refused():
         answer = step(FRESH, data, b"\xa5" * room)
         check(f"room for {room} bytes", (answer.refusal, answer.output[48:]), (number, b"\xa5" * max(room - 48, 0)))
     for n, number in [(1, 0), (2, 0), (1199, 0), (1200, 4), (1201, 3), (65535, 3)]:
-        full = tuple(map(int, retold.carbon((n * 10**9,) * 8)))
+        full = tuple(map(int, retold.carbon((n * 10**9,) * 8, 100, 100)))
         sound = Ledger(n, 1, 4, NO_VALUES, full, full)
         check(f"{n} records", offered(sound, period=(n + 1) % 2**16).refusal, number)
         for place in range(8):
@@ -209,24 +211,6 @@ def pattern(float_):
     return struct.unpack("<Q", struct.pack("<d", float_))[0]
 
 
-def fields_of(data):
-    """A record's fields, read by Python's own means."""
-    record = Record(*struct.unpack("<H8BH4s", data[:16]), struct.unpack("<8I", data[16:]))
-    check("record", (read_record(data), write_record(record)), (record, data))
-    return record
-
-
-def told_again(ledger, data, answer):
-    """An accepted record's step and its output record, each told a second time."""
-    record = fields_of(data)
-    n, kind, climate, _, T, R, released = answer.ledger
-    check("ledger", (n, kind, climate), (ledger.n + 1, record.kind, record.climate))
-    check("step", (T, R, released, *answer[2:6]), retold.step(ledger, record))
-    numbers = *answer[3:6], sum(R), sum(T)
-    check("output record", answer.output, struct.pack("<HBBI5Q", record.period, kind, climate, 0, *numbers))
-    return record
-
-
 def unlikely():
     """What no accepted record shows: every byte of a record another, and a ledger of a milligram of each type."""
     fields_of(bytes(range(1, 49)))
@@ -249,7 +233,7 @@ def demand_3(rng, kind, climate, part):
     d = [(decay(kind, rate) + part) / 10**9 if rate else Fraction(0) for rate in rates(climate)]
     ledger, brought, released, stock = FRESH, [()] * 8, [0] * 8, [Fraction(0)] * 8
     for _ in range(30):
-        data = write_record(next_record(rng, ledger, kind, climate))
+        data = write_record(measured(rng, next_record(rng, ledger, kind, climate)))
         data = damaged(rng, data) if rng.random() < 0.2 else data
         answer = step(ledger, data, ROOM)
         if answer.refusal:
@@ -272,7 +256,7 @@ def demand_3(rng, kind, climate, part):
 
 def reread(rng, kind, climate):
     """A run, also one that stops, leaves released what x0 of its output records comes to, and type 6 nothing."""
-    ledger, output, file = FRESH, b"", file_of(next_records(rng, FRESH, kind, climate, 20))
+    ledger, output, file = FRESH, b"", file_of(next_measured(rng, FRESH, kind, climate, 20))
     for part in (file[:240], damaged(rng, file[240:])):
         answer = reference.run(ledger, part, bytes(len(part) + 48))
         ledger, output = answer.ledger, output + answer.output[: 48 * answer.accepted]
@@ -366,6 +350,10 @@ def main():
     months_checks.years_begin()
     months_checks.within_ranges()
     months_checks.in_order()
+    sludge_checks.printed()
+    sludge_checks.formulas()
+    sludge_checks.ceilings()
+    sludge_checks.in_order()
     uncertainty_checks.printed()
     uncertainty_checks.chosen()
     uncertainty_checks.every_byte()
@@ -374,6 +362,8 @@ def main():
     in_whole_numbers()
     unlikely()
     image()
+    sludge_checks.every_byte()
+    sludge_checks.greatest()
     rng = random.Random(1)
     for kind, climate in KINDS_AND_CLIMATES:
         for part in (Fraction(0), Fraction(rng.randint(1, 98), 99), 1 - Fraction(1, 10**9), 1 - Fraction(1, 10**40)):
@@ -382,6 +372,7 @@ def main():
         reread(rng, kind, climate)
     for kind, climate in KINDS_AND_CLIMATES:
         months_checks.shared(rng, kind, climate)
+        sludge_checks.not_remembered(rng, kind, climate)
     samples_at_fault(rng)
     for kind, Z in [(2, 3)] * 300 + [(1, rng.randint(12, 40)) for _ in range(50)] + [(1, 400)] * 3:
         sampled(fair_sorting(rng, kind, Z))
