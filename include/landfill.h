@@ -38,6 +38,14 @@
  * each a year (paragraph 24 and equation (2)). OX, F, DOCf and GWP are free by month. The ledger counts the months, so that
  * a file may begin in the middle of a year; landfill_repeat_year fills in what the next month has to repeat.
  *
+ * Sludge. By default the DOC of domestic sludge (type 7) is 5 percent and that of pulp and paper industry sludge (type 8) is 9.
+ * A plant that knows its organic dry matter gives it in the record: m, a whole percentage, 1 to 100. The DOC in hundredths of
+ * a percent is then 50 * m for type 7, and 900 * m / 35 rounded down for type 8 (TOOL04: 5 * m / 10 and 9 * m / 35 percent).
+ * The formula that the bound speaks of has this rounded DOC. m of 10 for type 7 and of 35 for type 8 give the defaults. m of 0
+ * gives the default too: it says that nothing was measured, and never that there is no organic matter, so a measured value
+ * under 1 percent must not be rounded to 0. m counts for its own record only; the next brings its own, or 0. Records written
+ * before there was an m have 0 there, and give what they gave.
+ *
  * Tonnes. A mass is a whole number of kilograms. Tonnes in a float times 1000 often are not: 2.01 * 1000.0 is
  * 2009.9999999999998. Of the 100,000 values 0.01, 0.02, .. 1000.00 t, 1175 come out so (1.2 %), and landfill_cell refuses
  * them with 11. Round first:
@@ -105,18 +113,20 @@ enum {
 
 /* One record, 48 bytes: where each field starts. */
 enum {
-    LANDFILL_RECORD_AT_PERIOD = 0,    /* 2 bytes: 1 for the first record, then the next in turn */
-    LANDFILL_RECORD_AT_KIND = 2,      /* 1 byte */
-    LANDFILL_RECORD_AT_CLIMATE = 3,   /* 1 byte */
-    LANDFILL_RECORD_AT_FACTOR = 4,    /* 1 byte: correction factor, percent, 1 to 100 */
-    LANDFILL_RECORD_AT_OX = 5,        /* 1 byte: oxidation OX, percent, 0 to 100 */
-    LANDFILL_RECORD_AT_F = 6,         /* 1 byte: methane share F, percent, 0 to 100 */
-    LANDFILL_RECORD_AT_DOCF = 7,      /* 1 byte: DOCf, percent, 0 to 100 */
-    LANDFILL_RECORD_AT_CLASS = 8,     /* 1 byte: site class */
-    LANDFILL_RECORD_AT_GWP = 9,       /* 1 byte: warming potential GWP, 1 to 100 */
-    LANDFILL_RECORD_AT_CAPTURED = 10, /* 2 bytes: captured f, hundredths of a percent, 0 to 10000 */
-    LANDFILL_RECORD_AT_ZERO = 12,     /* 4 bytes: zero */
-    LANDFILL_RECORD_AT_MASSES = 16    /* 32 bytes: the masses of types 1 to 8 in kg, 4 bytes each, 0 to 1,000,000,000 */
+    LANDFILL_RECORD_AT_PERIOD = 0,        /* 2 bytes: 1 for the first record, then the next in turn */
+    LANDFILL_RECORD_AT_KIND = 2,          /* 1 byte */
+    LANDFILL_RECORD_AT_CLIMATE = 3,       /* 1 byte */
+    LANDFILL_RECORD_AT_FACTOR = 4,        /* 1 byte: correction factor, percent, 1 to 100 */
+    LANDFILL_RECORD_AT_OX = 5,            /* 1 byte: oxidation OX, percent, 0 to 100 */
+    LANDFILL_RECORD_AT_F = 6,             /* 1 byte: methane share F, percent, 0 to 100 */
+    LANDFILL_RECORD_AT_DOCF = 7,          /* 1 byte: DOCf, percent, 0 to 100 */
+    LANDFILL_RECORD_AT_CLASS = 8,         /* 1 byte: site class */
+    LANDFILL_RECORD_AT_GWP = 9,           /* 1 byte: warming potential GWP, 1 to 100 */
+    LANDFILL_RECORD_AT_CAPTURED = 10,     /* 2 bytes: captured f, hundredths of a percent, 0 to 10000 */
+    LANDFILL_RECORD_AT_DOMESTIC_DRY = 12, /* 1 byte: organic dry matter m of type 7, percent, 0 to 100; 0 if not measured */
+    LANDFILL_RECORD_AT_PAPER_DRY = 13,    /* 1 byte: organic dry matter m of type 8, percent, 0 to 100; 0 if not measured */
+    LANDFILL_RECORD_AT_ZERO = 14,         /* 2 bytes: zero */
+    LANDFILL_RECORD_AT_MASSES = 16        /* 32 bytes: the masses of types 1 to 8 in kg, 4 bytes each, 0 to 1,000,000,000 */
 };
 
 /* One output record, 48 bytes: where each field starts. */
@@ -161,7 +171,8 @@ enum {
  * - n is 0 and any other byte is not;
  * - n is above 0, and the kind is not 1 or 2, the climate not 1 to 4, some T over n * 10^9 * DOC * 100, some R over its T, or
  *   some released plus R not its T, the true sum being meant, which may be over 64 bits
- *   (DOC in hundredths of a percent: 4300, 4000, 1500, 2400, 2000, 0, 500, 900 for types 1 to 8);
+ *   (DOC in hundredths of a percent: 4300, 4000, 1500, 2400, 2000, 0, 5000, 2571 for types 1 to 8; types 7 and 8 have that of
+ *   m = 100 here, whatever m was);
  * - n is above 0 and the kind 2, and the year's factor is not 1 to 100, its class not 1 to 4, or its f over 10000;
  * - n is above 0 and the kind 1, and bytes 4-7 are not all zero.
  * Nothing else is tested. An image that was changed within these limits is taken as it stands, so guard the file.
@@ -175,7 +186,10 @@ enum {
  * yearly ledger, and for one with no records. A monthly one with records is refused with 3, since the year's factors are not
  * in it. Whoever has one runs the site's file of records again, from a fresh ledger: the figures are the same. Where months
  * of one year differ in a factor that they now share, the run stops at the first such month with 17; the year's own factors
- * have to go into its records, and then into the report. */
+ * have to go into its records, and then into the report.
+ *
+ * An image that was kept before records had an m stays sound. An image that is kept now may be refused with 3 by a library
+ * from before, whose ceiling on T has DOC 500 and 900 for types 7 and 8; and a record that has an m is refused by it with 5. */
 
 /* Refusals. A record is tested in the order of 1 to 8, then 17, then 9, a total with its samples in the order of 14 to 16,
  * and uncertainties in the order of 18 and 19; the first that holds is the answer. */
@@ -185,10 +199,10 @@ enum {
     LANDFILL_NO_ROOM = 2,           /* an output is too short */
     LANDFILL_UNSOUND = 3,           /* the ledger image fails a test of the list above */
     LANDFILL_FULL = 4,              /* the ledger has 1200 records */
-    LANDFILL_NOT_A_CODE = 5,        /* kind, climate or site class is not a code, or bytes 12-15 are not all zero */
+    LANDFILL_NOT_A_CODE = 5,        /* kind, climate or site class is not a code, or bytes 14 and 15 are not both zero */
     LANDFILL_OUT_OF_TURN = 6,       /* the period is not n + 1 */
     LANDFILL_OTHER_SERIES = 7,      /* kind or climate differs from the ledger's */
-    LANDFILL_OUT_OF_RANGE = 8,      /* correction factor, OX, F, DOCf, GWP or f is outside its range */
+    LANDFILL_OUT_OF_RANGE = 8,      /* correction factor, OX, F, DOCf, GWP, f or m is outside its range; m even with mass 0 */
     LANDFILL_MASS_TOO_LARGE = 9,    /* a mass is over 1,000,000,000 kg */
     LANDFILL_CELL_EMPTY = 10,       /* the cell is empty */
     LANDFILL_CELL_NOT_WHOLE = 11,   /* the cell is not a whole number: a fraction, infinite or not a number */
@@ -299,13 +313,16 @@ static inline uint8_t landfill_byte(uint64_t number)
     return number > 255 ? 255 : (uint8_t)number;
 }
 
-/* The fields of a record, wider than its bytes. Masses go by type number: mass[LANDFILL_FOOD]; mass[0] is no type's. */
+/* The fields of a record, wider than its bytes. Masses go by type number: mass[LANDFILL_FOOD]; mass[0] is no type's. The dry
+ * matter of sludge stands last, so that lists of values from before it still fit; whoever does not start from {0} has to set it
+ * too, and whoever uses the fields again for the next record has to set it anew. */
 struct landfill_record {
     uint32_t period, kind, climate;
     uint32_t factor, OX, F, DOCf; /* percent */
     uint32_t site_class, GWP;
     uint32_t captured;                 /* f, hundredths of a percent */
     uint64_t mass[LANDFILL_TYPES + 1]; /* kg */
+    uint32_t domestic_dry, paper_dry;  /* m of types 7 and 8, percent; 0 if not measured */
 };
 
 /* Writes the 48 bytes of a record. A field that is too large for its bytes is written as the largest number that they
@@ -324,7 +341,9 @@ static inline void landfill_put_record(uint8_t *record, const struct landfill_re
     landfill_put(record + LANDFILL_RECORD_AT_CLASS, 1, fields->site_class);
     landfill_put(record + LANDFILL_RECORD_AT_GWP, 1, fields->GWP);
     landfill_put(record + LANDFILL_RECORD_AT_CAPTURED, 2, fields->captured);
-    landfill_put(record + LANDFILL_RECORD_AT_ZERO, 4, 0);
+    landfill_put(record + LANDFILL_RECORD_AT_DOMESTIC_DRY, 1, fields->domestic_dry);
+    landfill_put(record + LANDFILL_RECORD_AT_PAPER_DRY, 1, fields->paper_dry);
+    landfill_put(record + LANDFILL_RECORD_AT_ZERO, 2, 0);
     for (type = 1; type <= LANDFILL_TYPES; type++)
         landfill_put(record + LANDFILL_RECORD_AT_MASSES + 4 * (type - 1), 4, fields->mass[type]);
 }
@@ -417,10 +436,10 @@ static inline const char *landfill_refusal_text(unsigned refusal)
         "There is too little room for the output.",
         "The ledger is damaged, or is no ledger.",
         "The ledger is full: it has 1200 records.",
-        "The kind, the climate or the site class is not a code, or bytes 12 to 15 are not zero.",
+        "The kind, the climate or the site class is not a code, or bytes 14 and 15 are not zero.",
         "The period is not the next in turn.",
         "The kind or the climate is not that of the records before.",
-        "The correction factor, OX, F, DOCf, GWP or the captured share is outside its range.",
+        "The correction factor, OX, F, DOCf, GWP, the captured share or the dry matter of sludge is outside its range.",
         "A mass is over 1,000,000,000 kg.",
         "The cell is empty.",
         "The cell is not a whole number of kilograms.",

@@ -3,6 +3,7 @@
 #include "offers.h"
 #include "reference.h"
 #include "sides.h"
+#include "sludge.h"
 #include "uncertainties.h"
 #include "years.h"
 
@@ -304,6 +305,7 @@ int main(int count, char **words)
     all_faults();
     all_uncertainties();
     all_years();
+    all_sludge();
     all_look_ups();
     all_cells();
     all_points();

@@ -1,5 +1,5 @@
-/* A first program with the library: two years of the site that docs/METHOD.md works by hand, a month that was sorted, and a
- * correction factor from uncertainties.
+/* A first program with the library: two years of the site that docs/METHOD.md works by hand, a month that was sorted, a
+ * correction factor from uncertainties, and sludge whose dry matter was measured.
  * Build it with: gcc -Iinclude tests/c/example.c target/staticlib/libabi.a */
 #include "landfill.h"
 
@@ -91,6 +91,17 @@ static void managed_year(struct landfill_record year)
     take_first("year 1", &year);
 }
 
+/* A year of domestic sludge with 22 percent of organic dry matter: its DOC is 11 percent, and not the default of 5. */
+static void sludge_year(struct landfill_record year)
+{
+    year.period = 1;
+    year.mass[LANDFILL_FOOD] = 0;
+    year.mass[LANDFILL_DOMESTIC_SLUDGE] = weighed(80);
+    year.domestic_dry = 22;
+    printf("80000 kg of domestic sludge with a dry matter of %" PRIu32 " %%\n", year.domestic_dry);
+    take_first("year 1", &year);
+}
+
 int main(void)
 {
     uint8_t ledger[LANDFILL_LEDGER_BYTES], first[LANDFILL_RECORD_BYTES], later[2 * LANDFILL_RECORD_BYTES];
@@ -143,5 +154,6 @@ int main(void)
 
     sorted_month(year);
     managed_year(year);
+    sludge_year(year);
     return 0;
 }

@@ -72,7 +72,8 @@ static void check_places(void)
     static const int ledger[] = {LANDFILL_LEDGER_AT_BROUGHT, LANDFILL_LEDGER_AT_STOCK, LANDFILL_LEDGER_AT_RELEASED};
     check("the place of a period", LANDFILL_RECORD_AT_PERIOD == 0 && LANDFILL_OUT_AT_PERIOD == 0);
     check_row("a place in a record", record, 9, 2, 1);
-    check("the place of the zeros or the masses", LANDFILL_RECORD_AT_ZERO == 12 && LANDFILL_RECORD_AT_MASSES == 16);
+    check("the place of a dry matter", LANDFILL_RECORD_AT_DOMESTIC_DRY == 12 && LANDFILL_RECORD_AT_PAPER_DRY == 13);
+    check("the place of the zeros or the masses", LANDFILL_RECORD_AT_ZERO == 14 && LANDFILL_RECORD_AT_MASSES == 16);
     check("the place of kind or climate in an output record", LANDFILL_OUT_AT_KIND == 2 && LANDFILL_OUT_AT_CLIMATE == 3);
     check("the place of the zeros in an output record", LANDFILL_OUT_AT_ZERO == 4);
     check_row("a place in an output record", out, 5, 8, 8);
@@ -108,18 +109,20 @@ static struct landfill_record all_fields(void)
     it.mass[LANDFILL_INERT] = 0x61626364;
     it.mass[LANDFILL_DOMESTIC_SLUDGE] = 0x71727374;
     it.mass[LANDFILL_PAPER_SLUDGE] = 0x81828384;
+    it.domestic_dry = 0x0d;
+    it.paper_dry = 0x0e;
     return it;
 }
 
 static void check_record(void)
 {
     static const uint8_t plain[48] = {
-        0x02, 0x01, 3,    4,    5,    6,    7,    8,    9,    10,   0x0c, 0x0b, 0,    0,    0,    0,
+        0x02, 0x01, 3,    4,    5,    6,    7,    8,    9,    10,   0x0c, 0x0b, 0x0d, 0x0e, 0,    0,
         0x14, 0x13, 0x12, 0x11, 0x24, 0x23, 0x22, 0x21, 0x34, 0x33, 0x32, 0x31, 0x44, 0x43, 0x42, 0x41,
         0x54, 0x53, 0x52, 0x51, 0x64, 0x63, 0x62, 0x61, 0x74, 0x73, 0x72, 0x71, 0x84, 0x83, 0x82, 0x81};
-    /* One more than fits: all bytes of the field are 255. */
+    /* More than fits: all bytes of the field are 255. */
     static const uint8_t too_large[48] = {
-        255, 255, 255, 255, 255, 255, 255, 255, 255, 255, 255, 255, 0,   0,   0,   0,
+        255, 255, 255, 255, 255, 255, 255, 255, 255, 255, 255, 255, 255, 255, 0,   0,
         255, 255, 255, 255, 255, 255, 255, 255, 255, 255, 255, 255, 255, 255, 255, 255,
         255, 255, 255, 255, 255, 255, 255, 255, 255, 255, 255, 255, 255, 255, 255, 255};
     uint8_t room[1 + LANDFILL_RECORD_BYTES + 1]; /* the record starts at an odd place */
@@ -138,9 +141,17 @@ static void check_record(void)
     it.mass[0] = 0;
     it.period = it.captured = 65536;
     it.kind = it.climate = it.factor = it.OX = it.F = it.DOCf = it.site_class = it.GWP = 256;
+    it.domestic_dry = it.paper_dry = 300;
     for (type = 1; type <= LANDFILL_TYPES; type++) it.mass[type] = (uint64_t)1 << 32;
     landfill_put_record(room + 1, &it);
     check_bytes("a record with fields too large", room + 1, too_large, sizeof too_large);
+}
+
+/* What came later stands behind what was there, so that older lists of values still fit. */
+static void check_last(void)
+{
+    size_t mass = offsetof(struct landfill_record, mass), domestic = offsetof(struct landfill_record, domestic_dry);
+    check("a field behind the masses", mass < domestic && domestic < offsetof(struct landfill_record, paper_dry));
 }
 
 static void check_sample(void)
@@ -295,7 +306,11 @@ static void check_texts(void)
     unsigned refusal;
     for (refusal = 0; refusal <= 19; refusal++) check("a text", strchr(landfill_refusal_text(refusal), '.') != NULL);
     check_text(LANDFILL_ACCEPTED, "Accepted.");
+    check_text(LANDFILL_NOT_A_CODE,
+               "The kind, the climate or the site class is not a code, or bytes 14 and 15 are not zero.");
     check_text(LANDFILL_OUT_OF_TURN, "The period is not the next in turn.");
+    check_text(LANDFILL_OUT_OF_RANGE,
+               "The correction factor, OX, F, DOCf, GWP, the captured share or the dry matter of sludge is outside its range.");
     check_text(LANDFILL_POINT_TOO_LARGE, "Figure and bound are too large to be drawn exactly.");
     check_text(LANDFILL_SAMPLE_NOT_WHOLE, "The fractions of a sample do not add up to 100 percent.");
     check_text(LANDFILL_NOT_THE_YEARS,
@@ -312,6 +327,7 @@ int main(void)
     check_sizes();
     check_places();
     check_record();
+    check_last();
     check_sample();
     check_masses();
     check_numbers();

@@ -89,6 +89,12 @@ struct series any_series(uint64_t most)
     return new_series(n, kind, 1 + below(4));
 }
 
+/* A dry matter of sludge, measured or not. */
+static uint64_t any_dry(void)
+{
+    return chance(50) ? edge(0, 100) : 0;
+}
+
 /* In a monthly series, a record that does not begin a year repeats the year's factors. */
 void make_record(uint8_t *bytes, struct series series)
 {
@@ -101,7 +107,8 @@ void make_record(uint8_t *bytes, struct series series)
     bytes[8] = (uint8_t)year.class;
     bytes[9] = (uint8_t)edge(1, 100);
     reference_write(bytes + 10, 2, year.f);
-    memset(bytes + 12, 0, 4);
+    for (int i = 12; i <= 13; i++) bytes[i] = (uint8_t)any_dry();
+    memset(bytes + 14, 0, 2);
     unsigned filled = (unsigned)edge(0, 100);
     for (int t = 0; t < 8; t++) reference_write(bytes + 16 + 4 * t, 4, chance(filled) ? edge(0, 1000000000) : 0);
 }
@@ -147,7 +154,7 @@ void break_rule(uint8_t *bytes, int rule)
     case 0: bytes[2] = outside(1, 2); break;
     case 1: bytes[3] = outside(1, 4); break;
     case 2: bytes[8] = outside(1, 4); break;
-    case 3: bytes[12 + pick % 4] = (uint8_t)edge(1, 255); break;
+    case 3: bytes[14 + pick % 2] = (uint8_t)edge(1, 255); break;
     case 4: reference_write(bytes, 2, period + 1 - 2 * below(2)); break;
     case 5: reference_write(bytes, 2, edge(0, 65535)); break;
     case 6: bytes[2] = (uint8_t)(3 - bytes[2]); break;
@@ -156,11 +163,12 @@ void break_rule(uint8_t *bytes, int rule)
     case 9: bytes[5 + pick % 3] = outside(0, 100); break;
     case 10: bytes[9] = outside(1, 100); break;
     case 11: reference_write(bytes + 10, 2, edge(10001, 65535)); break;
-    case 12:
-    case 13: reference_write(bytes + 16 + 4 * (pick % 8), 4, edge(1000000001, UINT32_MAX)); break;
-    case 14:
-    case 15: change_year(bytes, (int)below(CHANGES)); break;
-    case 16: bytes[pick] = (uint8_t)draw(); break;
+    case 12: bytes[12 + pick % 2] = outside(0, 100); break;
+    case 13:
+    case 14: reference_write(bytes + 16 + 4 * (pick % 8), 4, edge(1000000001, UINT32_MAX)); break;
+    case 15:
+    case 16: change_year(bytes, (int)below(CHANGES)); break;
+    case 17: bytes[pick] = (uint8_t)draw(); break;
     default: bytes[pick] ^= (uint8_t)(1u << below(8)); break;
     }
 }

@@ -44,7 +44,7 @@ void make_record(uint8_t *bytes, struct series series);
 void make_file(uint8_t *bytes, size_t count, struct series series);
 
 /* The number of ways to change the year's factors of a record, and of rules to break. */
-enum { CHANGES = 6, RULES = 18 };
+enum { CHANGES = 6, RULES = 19 };
 
 /* Changes the year's factors of a record within their ranges: the correction factor, the class, f in its low byte alone, f in
  * its high byte alone, f by one, or all three. Any other way changes nothing. */
@@ -63,7 +63,9 @@ void make_ledger(uint8_t *image, struct series series);
 void break_type(uint8_t *image, int t, int way);
 void damage_ledger(uint8_t *image);
 
-/* Writes the year's factors into an image; takes n and the year's factors of a series from one. */
+/* Writes T and R of the type at place t into an image, with what it has released then; writes the year's factors into one;
+ * takes n and the year's factors of a series from one. */
+void put_type(uint8_t *image, int t, uint64_t T, uint64_t R);
 void put_year(uint8_t *image, struct year year);
 void follow(struct series *series, const uint8_t *image);
 

@@ -27,6 +27,13 @@ static void balance(uint8_t *image, int t)
     reference_write(released_of(image, t), 8, T - R);
 }
 
+void put_type(uint8_t *image, int t, uint64_t T, uint64_t R)
+{
+    reference_write(brought_of(image, t), 8, T);
+    reference_write(stock_of(image, t), 8, R);
+    balance(image, t);
+}
+
 void put_year(uint8_t *image, struct year year)
 {
     image[4] = (uint8_t)year.factor;
@@ -50,9 +57,7 @@ void make_ledger(uint8_t *image, struct series series)
     if (series.kind == 2) put_year(image, series.year);
     for (int t = 0; t < 8; t++) {
         uint64_t T = edge(0, reference_ceiling(series.n, t));
-        reference_write(brought_of(image, t), 8, T);
-        reference_write(stock_of(image, t), 8, edge(0, T));
-        balance(image, t);
+        put_type(image, t, T, edge(0, T));
     }
 }
 

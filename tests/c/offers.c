@@ -91,6 +91,28 @@ void list_records(const uint8_t *records, size_t length, size_t room)
     both("landfill_listing", listing);
 }
 
+void offer_record(struct series series, const uint8_t *record)
+{
+    lend_ledger(series, 0);
+    take_record(record, 48, 48, 88);
+    lend_ledger(series, 0);
+    run_records(record, 48, 48);
+}
+
+void take_on(uint8_t *image, const uint8_t *record)
+{
+    lend_image(image, IMAGE_BYTES);
+    take_record(record, 48, 48, 88);
+    keep_image(image);
+}
+
+void run_on(uint8_t *image, const uint8_t *records, size_t count)
+{
+    lend_image(image, IMAGE_BYTES);
+    run_records(records, 48 * count, 48 * count);
+    keep_image(image);
+}
+
 void one_take(struct series series, unsigned damaged, size_t record_len, size_t out_len, size_t answer_len)
 {
     uint8_t record[48];

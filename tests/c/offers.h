@@ -28,6 +28,13 @@ void one_take(struct series series, unsigned damaged, size_t record_len, size_t 
 void run_file(struct series series, unsigned damaged, size_t length, size_t room);
 void one_listing(struct series series, unsigned damaged, size_t length, size_t room);
 
+/* Offers a record to a ledger of its series, by a step and by a run. */
+void offer_record(struct series series, const uint8_t *record);
+
+/* Takes an image through a step, or through so many records of a run. */
+void take_on(uint8_t *image, const uint8_t *record);
+void run_on(uint8_t *image, const uint8_t *records, size_t count);
+
 /* Lends a ledger and runs a file from it. */
 void one_run(struct series series, unsigned damaged, size_t length, size_t room);
 

@@ -12,8 +12,12 @@ static const uint64_t BILLION = 1000000000;
 
 /* ---- Waste types and their constants */
 
-/* Hundredths of a percent of wet weight, types 1 to 8. */
+/* Hundredths of a percent of wet weight, types 1 to 8: the default, and the most that a record can have. */
 static const uint64_t DOC[TYPES] = {4300, 4000, 1500, 2400, 2000, 0, 500, 900};
+static const uint64_t MOST_DOC[TYPES] = {4300, 4000, 1500, 2400, 2000, 0, 5000, 2571};
+
+/* The places of the two types of sludge. */
+enum { DOMESTIC = 6, INDUSTRIAL = 7 };
 
 /* Yearly rates in thousandths, climates 1 to 4; a group for each type. */
 static const uint16_t GROUP_A[4] = {40, 60, 45, 70};
@@ -91,8 +95,9 @@ void reference_write(uint8_t *bytes, int count, uint64_t number)
 
 /* ---- One record */
 
+/* m is the organic dry matter, percent, 0 where it was not measured; only sludge has one. */
 struct record {
-    uint64_t period, kind, climate, factor, OX, F, DOCf, class, GWP, f, zero, mass[TYPES];
+    uint64_t period, kind, climate, factor, OX, F, DOCf, class, GWP, f, m[TYPES], zero, mass[TYPES];
 };
 
 static struct record fields(const uint8_t *bytes)
@@ -108,7 +113,9 @@ static struct record fields(const uint8_t *bytes)
         .class = bytes[8],
         .GWP = bytes[9],
         .f = reference_read(bytes + 10, 2),
-        .zero = reference_read(bytes + 12, 4),
+        .m[DOMESTIC] = bytes[12],
+        .m[INDUSTRIAL] = bytes[13],
+        .zero = reference_read(bytes + 14, 2),
     };
     for (int t = 0; t < TYPES; t++) it.mass[t] = reference_read(bytes + 16 + 4 * t, 4);
     return it;
@@ -124,7 +131,7 @@ static bool between(uint64_t low, uint64_t number, uint64_t high)
 /* The most carbon in mg that n records can bring of the type at place t. */
 uint64_t reference_ceiling(uint64_t n, int t)
 {
-    return n * BILLION * DOC[t] * 100;
+    return n * BILLION * MOST_DOC[t] * 100;
 }
 
 /* A monthly ledger with records has a year's factors within their ranges; any other has none. */
@@ -157,7 +164,7 @@ static bool codes_are_wrong(const struct record *it)
 static bool ranges_are_wrong(const struct record *it)
 {
     return !between(1, it->factor, 100) || it->OX > 100 || it->F > 100 || it->DOCf > 100 ||
-           !between(1, it->GWP, 100) || it->f > 10000;
+           !between(1, it->GWP, 100) || it->f > 10000 || it->m[DOMESTIC] > 100 || it->m[INDUSTRIAL] > 100;
 }
 
 /* Tells whether the next record is number 12q + 1. */
@@ -203,6 +210,13 @@ uint64_t reference_total(const uint64_t of_types[8])
     uint64_t total = 0;
     for (int t = 0; t < TYPES; t++) total += of_types[t];
     return total;
+}
+
+/* Hundredths of a percent of wet weight: the default, or for sludge what its dry matter gives. */
+static uint64_t DOC_of(const struct record *it, int t)
+{
+    if (it->m[t] == 0) return DOC[t];
+    return t == DOMESTIC ? 50 * it->m[t] : 900 * it->m[t] / 35;
 }
 
 /* Brings a type's deposit in, decays its stock, and gives the release G. */
@@ -259,7 +273,7 @@ void reference_accept(struct reference_ledger *ledger, const uint8_t *record, ui
     ledger->kind = (uint8_t)it.kind;
     ledger->climate = (uint8_t)it.climate;
     for (int t = 0; t < TYPES; t++) {
-        uint64_t deposit = it.mass[t] * DOC[t] * 100;
+        uint64_t deposit = it.mass[t] * DOC_of(&it, t) * 100;
         uint32_t D = reference_entry(ledger->kind, RATES[t][ledger->climate - 1]);
         answer->releases[t] = decay(&ledger->T[t], &ledger->R[t], deposit, D);
         ledger->released[t] += answer->releases[t];

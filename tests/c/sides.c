@@ -158,6 +158,19 @@ static void share(struct side *side)
         if (spans[place].lent) memcpy(side->rooms[place], before.rooms[place], used(place));
 }
 
+static void end(void)
+{
+    printf("differential: %" PRIu64 " calls, 1 difference\n", compared);
+    exit(1);
+}
+
+void hold(const char *name, uint64_t number, uint64_t expected)
+{
+    if (number == expected) return;
+    printf("after call %" PRIu64 ", %s is %" PRIu64 " and not %" PRIu64 "\n", compared, name, number, expected);
+    end();
+}
+
 void both(const char *name, call *make)
 {
     compared++;
@@ -170,8 +183,7 @@ void both(const char *name, call *make)
         wrong |= differs(&library, &reference, place) || !zones_stand(&library, place);
     if (wrong) {
         print_difference(name);
-        printf("differential: %" PRIu64 " calls, 1 difference\n", compared);
-        exit(1);
+        end();
     }
     for (enum place place = 0; place < PLACES; place++) spans[place].lent = 0;
 }

@@ -64,6 +64,10 @@ const uint8_t *left(enum place place);
  * After it no buffer is lent. */
 void both(const char *name, call *make);
 
+/* Holds a number that the last call has left to what it should be by another way; prints both and ends the program where they
+ * differ. */
+void hold(const char *name, uint64_t number, uint64_t expected);
+
 /* The number of calls compared. */
 uint64_t calls(void);
 

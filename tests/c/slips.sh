@@ -1,7 +1,8 @@
 #!/usr/bin/env bash
 # Tests the differential test: every wrong copy of the reference that slips.txt lists has to be told from the right one.
-# Usage: bash tests/c/slips.sh
+# Usage: bash tests/c/slips.sh [FILE], where FILE has some lines of slips.txt
 set -eu
+slips=$(realpath "${1:-$(dirname "$0")/slips.txt}")
 cd "$(dirname "$0")/../.."
 . tests/c/build.sh
 prepare --standin
@@ -26,6 +27,6 @@ while IFS='|' read -r slip file edit; do
         missed=$((missed + 1))
         echo "NOT CAUGHT: $slip (status $status)"
     fi
-done <tests/c/slips.txt
+done <"$slips"
 echo "slips: $caught caught, $missed missed"
 [ "$missed" -eq 0 ]

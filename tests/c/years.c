@@ -36,10 +36,7 @@ static void break_one_more(struct series series, int way, int rule)
     make_record(record, series);
     change_year(record, way);
     break_rule(record, rule);
-    lend_ledger(series, 0);
-    take_record(record, 48, 48, 88);
-    lend_ledger(series, 0);
-    run_records(record, 48, 48);
+    offer_record(series, record);
 }
 
 /* Other factors together with each other fault, of which some are tested before and some after. */
@@ -85,13 +82,6 @@ static void all_listed(uint64_t kind)
         }
 }
 
-static void run_on(uint8_t *image, const uint8_t *records, size_t count)
-{
-    lend_image(image, IMAGE_BYTES);
-    run_records(records, 48 * count, 48 * count);
-    keep_image(image);
-}
-
 /* A file in three calls, the image going from one to the next: a run up to the cut, a step, and a run of what is left. The
  * step's record may be changed; where it is refused, the last run begins with the record as it should be. */
 static void one_split(struct series series, size_t cut, int way)
@@ -101,9 +91,7 @@ static void one_split(struct series series, size_t cut, int way)
     memcpy(record, file + 48 * cut, 48);
     change_year(record, way);
     run_on(image, file, cut);
-    lend_image(image, IMAGE_BYTES);
-    take_record(record, 48, 48, 88);
-    keep_image(image);
+    take_on(image, record);
     uint64_t n = reference_read(image, 2);
     run_on(image, file + 48 * n, MONTHS - n);
 }
