@@ -1,7 +1,7 @@
-/* Runs one peer, or another entry of the library, over the first records of a monthly file of 1200, or of the same by year;
- * or shares a total by the first of 400 samples; or works a correction factor out; or looks an entry of the decay table up;
- * or compares what all peers write, and fails where one refuses a record or a total, library and reference differ, two share
- * a total or look an entry up unlike, or a factor is not as expected.
+/* Runs one peer, or another entry of the library, over the first records of a monthly file of 1200, or of the same by year or
+ * with a dry matter of sludge; or shares a total by the first of 400 samples; or works a correction factor out; or looks an
+ * entry of the decay table up; or compares what all peers write, and fails where one refuses a record or a total, library and
+ * reference differ, two share a total or look an entry up unlike, or a factor is not as expected.
  * Usage: bench PEER COUNT, bench ENTRY COUNT, bench SHARER COUNT, bench WORKER FACTOR or bench FINDER RATE, with the number
  * in four digits; bench compare */
 #include "doubles.h"
@@ -17,7 +17,7 @@
 #include <stdlib.h>
 #include <string.h>
 
-enum { RECORDS = 1200, BYTES = 48, PEERS = 5, ENTRIES = 4, EQUATION = 4, MOST_BY_EQUATION = 120 };
+enum { RECORDS = 1200, BYTES = 48, PEERS = 5, ENTRIES = 5, EQUATION = 4, MOST_BY_EQUATION = 120 };
 enum { SAMPLES = 400, TOTAL = 987654321, SHARERS = 3 };
 enum { WORKED = 2, WORKERS = 3, FINDERS = 4 };
 
@@ -49,6 +49,17 @@ static void make_months(void)
         reference_write(record + 10, 2, below(10001));
         if (i % 12 > 0) repeat_year(record);
         for (int t = 0; t < 8; t++) reference_write(record + 16 + 4 * t, 4, 1 + below(LANDFILL_MASS_LIMIT));
+    }
+}
+
+/* Makes the records yearly or monthly, and gives both sludges a dry matter of 1 to 100 percent, or none. */
+static void change_records(uint8_t kind, int measured)
+{
+    for (unsigned i = 0; i < RECORDS; i++) {
+        uint8_t *record = file + BYTES * i;
+        record[2] = kind;
+        record[12] = (uint8_t)(measured ? 1 + i % 100 : 0);
+        record[13] = (uint8_t)(measured ? 100 - i % 100 : 0);
     }
 }
 
@@ -92,10 +103,12 @@ static const struct {
     const char *name;
     doubles_run *run;
     uint8_t kind;
-} entries[ENTRIES] = {{"take", by_take, LANDFILL_MONTHLY},
-                      {"listing", by_listing, LANDFILL_MONTHLY},
-                      {"run-by-year", by_library, LANDFILL_YEARLY},
-                      {"take-by-year", by_take, LANDFILL_YEARLY}};
+    int measured;
+} entries[ENTRIES] = {{"take", by_take, LANDFILL_MONTHLY, 0},
+                      {"listing", by_listing, LANDFILL_MONTHLY, 0},
+                      {"run-by-year", by_library, LANDFILL_YEARLY, 0},
+                      {"take-by-year", by_take, LANDFILL_YEARLY, 0},
+                      {"run-with-sludge", by_library, LANDFILL_MONTHLY, 1}};
 
 static const struct {
     const char *name;
@@ -143,7 +156,7 @@ static int runs(int peer, size_t count)
 static int enters(int entry, size_t count)
 {
     uint64_t accepted;
-    for (size_t i = 0; i < RECORDS; i++) file[BYTES * i + 2] = entries[entry].kind;
+    change_records(entries[entry].kind, entries[entry].measured);
     return entries[entry].run(file, BYTES * count, out[0], sizeof out[0], &accepted) == 0 && accepted == count;
 }
 
@@ -194,7 +207,7 @@ static int all_find_alike(void)
 
 /* Prints how far a peer's figures are from the library's, at most, the bound of the library's figure there, and how many
  * records have figures as far apart as the bound or farther. */
-static void compare(int peer, size_t count)
+static void compare(int peer, size_t count, const char *sludge)
 {
     uint64_t most = 0, bound_there = 0, outside = 0;
     for (size_t i = 0; i < count; i++) {
@@ -207,8 +220,21 @@ static void compare(int peer, size_t count)
         }
         outside += apart >= bound;
     }
-    printf("| %s | %zu | %s | %" PRIu64 " | %" PRIu64 " | %" PRIu64 " |\n", peers[peer].name, count,
+    printf("| %s%s | %zu | %s | %" PRIu64 " | %" PRIu64 " | %" PRIu64 " |\n", peers[peer].name, sludge, count,
            memcmp(out[0], out[peer], BYTES * count) == 0 ? "yes" : "no", most, bound_there, outside);
+}
+
+/* Compares all peers over the monthly file. Tells whether each takes it, and the reference writes what the library does. */
+static int all_run_alike(int measured)
+{
+    change_records(LANDFILL_MONTHLY, measured);
+    if (!runs(0, RECORDS)) return 0;
+    for (int peer = 1; peer < PEERS; peer++) {
+        size_t count = peer == EQUATION ? MOST_BY_EQUATION : RECORDS;
+        if (!runs(peer, count)) return 0;
+        compare(peer, count, measured ? ", measured sludge" : "");
+    }
+    return memcmp(out[0], out[1], sizeof out[0]) == 0;
 }
 
 int main(int words, char **word)
@@ -218,14 +244,8 @@ int main(int words, char **word)
     make_samples(samples, SAMPLES);
     if (words == 2 || (words == 3 && strcmp(word[1], "reference") == 0)) reference_start();
     if (words == 2 && strcmp(word[1], "compare") == 0) {
-        if (!runs(0, RECORDS)) return 1;
-        for (int peer = 1; peer < PEERS; peer++) {
-            size_t count = peer == EQUATION ? MOST_BY_EQUATION : RECORDS;
-            if (!runs(peer, count)) return 1;
-            compare(peer, count);
-        }
-        int alike = all_share_alike(3) && all_share_alike(SAMPLES) && all_work_alike() && all_find_alike();
-        return alike && memcmp(out[0], out[1], sizeof out[0]) == 0 ? 0 : 1;
+        int alike = all_run_alike(0) && all_run_alike(1) && all_share_alike(3) && all_share_alike(SAMPLES);
+        return alike && all_work_alike() && all_find_alike() ? 0 : 1;
     }
     for (int entry = 0; words == 3 && entry < ENTRIES; entry++)
         if (strcmp(word[1], entries[entry].name) == 0) return enters(entry, strtoul(word[2], NULL, 10)) ? 0 : 1;

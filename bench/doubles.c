@@ -6,7 +6,7 @@
 
 enum { TYPES = 8, RECORDS = 1200, BYTES = 48 };
 
-/* Carbon content as a fraction; yearly rates by climate; the methane correction factor by site class. */
+/* Carbon content as a fraction by default; yearly rates by climate; the methane correction factor by site class. */
 static const double DOC[TYPES] = {0.43, 0.40, 0.15, 0.24, 0.20, 0, 0.05, 0.09};
 static const double RATE[TYPES][4] = {
     {0.020, 0.030, 0.025, 0.035}, {0.040, 0.060, 0.045, 0.070}, {0.060, 0.185, 0.085, 0.400}, {0.040, 0.060, 0.045, 0.070},
@@ -23,6 +23,15 @@ static uint32_t number(const uint8_t *bytes, size_t count)
 static double mass(const uint8_t *record, int t)
 {
     return number(record + 16 + 4 * t, 4);
+}
+
+/* Carbon contents as fractions: those of sludge by its dry matter, where the record has one, and rounded down as document 02
+ * has it. */
+static inline void set_contents(double *contents, const uint8_t *record)
+{
+    memcpy(contents, DOC, sizeof DOC);
+    if (record[12] > 0) contents[6] = 50 * record[12] / 10000.0;
+    if (record[13] > 0) contents[7] = 900 * record[13] / 35 / 10000.0;
 }
 
 /* k by year, or a twelfth of it by month. */
@@ -45,11 +54,11 @@ static uint8_t refusal_of(const uint8_t *first, const uint8_t *it, size_t left, 
     if (left < BYTES) return 1;
     if (room < BYTES) return 2;
     if (n == RECORDS) return 4;
-    if (it[2] < 1 || it[2] > 2 || it[3] < 1 || it[3] > 4 || it[8] < 1 || it[8] > 4 || number(it + 12, 4) != 0) return 5;
+    if (it[2] < 1 || it[2] > 2 || it[3] < 1 || it[3] > 4 || it[8] < 1 || it[8] > 4 || number(it + 14, 2) != 0) return 5;
     if (number(it, 2) != n + 1) return 6;
     if (it[2] != first[2] || it[3] != first[3]) return 7;
     if (it[4] < 1 || it[4] > 100 || it[5] > 100 || it[6] > 100 || it[7] > 100 || it[9] < 1 || it[9] > 100 ||
-        number(it + 10, 2) > 10000)
+        number(it + 10, 2) > 10000 || it[12] > 100 || it[13] > 100)
         return 8;
     if (year_is_another(first, it, n)) return 17;
     for (int t = 0; t < TYPES; t++)
@@ -78,7 +87,7 @@ static void put_output(uint8_t *out, const uint8_t *record, double released, dou
 static inline uint8_t by_stock(int every, const uint8_t *records, size_t records_len, uint8_t *out, size_t out_len,
                                uint64_t *accepted)
 {
-    double left[TYPES] = {0}, decay[TYPES], brought = 0;
+    double left[TYPES] = {0}, decay[TYPES], contents[TYPES], brought = 0;
     uint8_t refusal = 0;
     size_t done = 0;
     for (*accepted = 0; done < records_len; ++*accepted, done += BYTES) {
@@ -88,8 +97,9 @@ static inline uint8_t by_stock(int every, const uint8_t *records, size_t records
         if (every || done == 0)
             for (int t = 0; t < TYPES; t++) decay[t] = exp(-rate(record, t));
         double released = 0, stock = 0;
+        set_contents(contents, record);
         for (int t = 0; t < TYPES; t++) {
-            double deposit = mass(record, t) * DOC[t], held = left[t] + deposit;
+            double deposit = mass(record, t) * contents[t], held = left[t] + deposit;
             left[t] = held * decay[t];
             released += held - left[t];
             stock += left[t];
@@ -114,27 +124,30 @@ uint8_t doubles_exp_once(const uint8_t *records, size_t records_len, uint8_t *ou
  * e^(-k(j) * (y - x)) * (1 - e^(-k(j))). */
 static double double_sum(const uint8_t *records, uint64_t y)
 {
-    double sum = 0;
-    for (uint64_t x = 1; x <= y; x++)
+    double sum = 0, contents[TYPES];
+    for (uint64_t x = 1; x <= y; x++) {
+        const uint8_t *record = records + BYTES * (x - 1);
+        set_contents(contents, record);
         for (int j = 0; j < TYPES; j++) {
-            const uint8_t *record = records + BYTES * (x - 1);
             double k = rate(record, j);
-            sum += mass(record, j) * DOC[j] * exp(-k * (double)(y - x)) * (1 - exp(-k));
+            sum += mass(record, j) * contents[j] * exp(-k * (double)(y - x)) * (1 - exp(-k));
         }
+    }
     return sum;
 }
 
 uint8_t doubles_equation(const uint8_t *records, size_t records_len, uint8_t *out, size_t out_len, uint64_t *accepted)
 {
-    double stock = 0, brought = 0;
+    double stock = 0, brought = 0, contents[TYPES];
     uint8_t refusal = 0;
     size_t done = 0;
     for (*accepted = 0; done < records_len; ++*accepted, done += BYTES) {
         const uint8_t *record = records + done;
         refusal = refusal_of(records, record, records_len - done, out_len - done, *accepted);
         if (refusal != 0) break;
+        set_contents(contents, record);
         double deposit = 0, released = double_sum(records, *accepted + 1);
-        for (int t = 0; t < TYPES; t++) deposit += mass(record, t) * DOC[t];
+        for (int t = 0; t < TYPES; t++) deposit += mass(record, t) * contents[t];
         brought += deposit;
         stock += deposit - released;
         put_output(out + done, record, released, stock, brought);

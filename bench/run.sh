@@ -79,11 +79,12 @@ awk -v peers="$peers" '
 # The program's instructions for so many records or samples, or for a factor or a rate, those for none taken off.
 over_none() { echo "$(($($counter "$target/bench" "$1" "$2") - $($counter "$target/bench" "$1" 0000)))"; }
 
-# Other entries of the library on the same 1200 records, and two on these as years.
+# Other entries of the library on the same 1200 records, two on these as years, and a run where sludge has a dry matter.
 by_entry() { echo "| $1 | $(($(over_none "$2" 1200) / 1200)) |"; }
 printf '\nInstructions for each of 1200 records by other entries:\n\n| Entry | Instructions |\n|---|---|\n'
 for entry in take listing; do by_entry "\`landfill_$entry\`" $entry; done
 for entry in run take; do by_entry "\`landfill_$entry\` by year" $entry-by-year; done
+by_entry '`landfill_run` with measured sludge' run-with-sludge
 
 printf '\nInstructions for one call by samples:\n\n| Samples | library | plain C |\n|---|---|---|\n'
 for count in 0003 0400; do echo "| $((10#$count)) | $(over_none masses $count) | $(over_none sorted $count) |"; done
