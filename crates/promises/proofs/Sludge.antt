@@ -54,14 +54,14 @@ module _ (bytes : List ℕ) where
   pub domestic-measured : 1 ≤ mOf bytes 6 → depositOf bytes 6 ≡ depositBy bytes 6 (hundredths (domesticPercent (mOf bytes 6)))
   unfolding depositOf carbonOf dryOf
   domestic-measured some =
-      let doc : 50 * mOf bytes 6 ≡ hundredths (domesticPercent (mOf bytes 6)) = omega arith in
-      simp (ne-eqb (mOf bytes 6) 0 (λ z. omega (arith, some, z)), doc)
+      let doc : carbonOf 7 (dryOf bytes 7) ≡ hundredths (domesticPercent (mOf bytes 6)) = rw (ne-eqb (mOf bytes 6) 0 (λ z. omega (arith, some, z))) (omega arith) in
+      rw doc
 
   pub industrial-measured : 1 ≤ mOf bytes 7 → depositOf bytes 7 ≡ depositBy bytes 7 (hundredths (industrialPercent (mOf bytes 7)))
   unfolding depositOf carbonOf dryOf
   industrial-measured some =
-      let doc : 900 * mOf bytes 7 / 35 ≡ hundredths (industrialPercent (mOf bytes 7)) = omega arith in
-      simp (ne-eqb (mOf bytes 7) 0 (λ z. omega (arith, some, z)), doc)
+      let doc : carbonOf 8 (dryOf bytes 8) ≡ hundredths (industrialPercent (mOf bytes 7)) = rw (ne-eqb (mOf bytes 7) 0 (λ z. omega (arith, some, z))) (omega arith) in
+      rw doc
 
   dry-when : dryInRange bytes ≡ true → Dry bytes
   unfolding dryInRange dryOf
