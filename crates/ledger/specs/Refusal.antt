@@ -1,4 +1,4 @@
--- Document 01, refusal 3, with what requests b and c of document 02 add: when a ledger is sound; and the refusal of a record.
+-- Document 01, refusal 3, with what requests b, c and f of document 02 add: when a ledger is sound; and the refusal of a record.
 use mathlib.Core.Bool.{Bool, cond, _&&_}
 use mathlib.Core.List.{List}
 use Prim.Native.Nat.{ℕ}

@@ -37,7 +37,7 @@ use Rattle.promises.proofs.Worked.{worked}
 use Rattle.promises.proofs.Sorting.{sorted-where, sorted-well, sorted-light}
 use Rattle.promises.proofs.Equation.{phi-is, V-is}
 use Rattle.promises.proofs.Uncertainties.{factor-where, factor-well, factor-one, factor-18, codes-where, codes-18, codes-19, codes-table, codes-chosen, codes-well, factor-falls, codes-fall, factor-86}
-use Rattle.promises.proofs.Sludge.{default-kept, domestic-measured, industrial-measured, over-100, dry-free, sound-by, still-sound}
+use Rattle.promises.proofs.Sludge.{default-kept, domestic-measured, industrial-measured, over-100, dry-unseen, dry-free, sound-by, still-sound}
 use Rattle.promises.proofs.Months.{months-share, only-17, always-17, year-kept}
 
 -- Every rate of a type that decays is in the table, by one test over the types and climates.
@@ -159,6 +159,7 @@ promises =
       domestic-measured = domestic-measured;
       industrial-measured = industrial-measured;
       over-100 = over-100;
+      dry-unseen = λ l one other room alike. dry-unseen one other alike l room;
       dry-free = λ l one other room alike. dry-free one other alike l room;
       sound-by = sound-by;
       still-sound = still-sound;

@@ -116,6 +116,10 @@ module _ (one other : List ℕ) (alike : AlikeButDry one other) where
   unfolding light
   lights = every-same (light one) (light other) 8 (λ t h. rw (masses t))
 
+  pub dry-unseen : (l : Ledger) (room : ℕ) → NoneAhead 8 l one room → NoneAhead 8 l other room
+  unfolding faultsOf
+  dry-unseen l room past = rw (alike .same-length, codes, period, series (l .kind) (l .climate)) at past
+
   pub dry-free : (l : Ledger) (room : ℕ) → Dry one → Dry other → takeOf l one room .refusal ≡ takeOf l other room .refusal
   unfolding refusalOf faultsOf
   dry-free l room d d′ =

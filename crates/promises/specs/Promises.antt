@@ -208,7 +208,9 @@ pub record Promises : Type 0 where
   pub industrial-measured : (bytes : List ℕ) → 1 ≤ mOf bytes 7 → depositOf bytes 7 ≡ depositBy bytes 7 (hundredths (industrialPercent (mOf bytes 7)))
   -- '8 also covers m over 100', whatever the mass: where none of 1 to 7 is there, such a record is refused with 8.
   pub over-100 : (l : Ledger) (bytes : List ℕ) (room : ℕ) → NoneAhead 8 l bytes room → (Dry bytes → ⊥) → takeOf l bytes room .refusal ≡ 8
-  -- '5 looks only at bytes 14 and 15': no refusal looks at an m of 0 to 100.
+  -- '5 looks only at bytes 14 and 15': nothing ahead of 8 looks at bytes 12 and 13, whatever they are, so that 8 is what m over 100 gets;
+  pub dry-unseen : (l : Ledger) (one other : List ℕ) (room : ℕ) → AlikeButDry one other → NoneAhead 8 l one room → NoneAhead 8 l other room
+  -- and no refusal looks at an m of 0 to 100.
   pub dry-free : (l : Ledger) (one other : List ℕ) (room : ℕ) → AlikeButDry one other → Dry one → Dry other
       → takeOf l one room .refusal ≡ takeOf l other room .refusal
   -- 'and 3 uses DOC 5000 and 2571 for types 7 and 8 in its ceiling on T'; what was sound by document 01's DOC still is.
