@@ -2,7 +2,7 @@
 use mathlib.Core.Path.{_≡_, refl}
 use mathlib.Core.Bool.{Bool, true, false, not, cond, _&&_}
 use mathlib.Core.List.{List}
-use Prim.Native.Nat.{ℕ, _+_, _*_, _≤_, _<_}
+use Prim.Native.Nat.{ℕ, _+_, _≤_, _<_}
 use native.Mathlib.Omega.{arith}
 use borrow.Author.Tests.{not-false, eqb-true, eqb-false, ltb-false, lt-ltb, le-ltb}
 use lib.Dec.{eqb}
@@ -13,7 +13,7 @@ use Rattle.numbers.proofs.Eight.{both-true, all-true, every-at, eight-at}
 use Rattle.numbers.proofs.Fault.{isBad, clear, parted}
 use Rattle.decay.specs.Series.{isKind}
 use Rattle.waste.specs.Waste.{carbonOf, isClimate, isClass}
-use Rattle.record.specs.Fields.{recordBytes, periodOf, kindOf, climateOf, classOf, factorsOf, depositOf}
+use Rattle.record.specs.Fields.{recordBytes, periodOf, kindOf, climateOf, classOf, factorsOf}
 use Rattle.record.specs.Ranges.{codes, coded, inRange, dryInRange, light}
 use Rattle.record.proofs.Laws.{deposit-within}
 use Rattle.stock.specs.Stock.{mostRecords, mostBrought, entryAt, ceilingOf}

@@ -1,23 +1,23 @@
 -- A record's m decides its DOC and, over 100, refusal 8, and nothing else; the ceilings of refusal 3 have only risen.
-use mathlib.Core.Path.{_≡_, refl, sym, _∙_}
-use mathlib.Core.Bool.{Bool, true, false, cond, not, _&&_, and-false}
+use mathlib.Core.Path.{_≡_, refl, _∙_}
+use mathlib.Core.Bool.{Bool, true, false, cond, _&&_, and-false}
 use mathlib.Core.List.{List}
-use Prim.Native.Nat.{ℕ, _+_, _*_, _/_, _^_, _≤_, _<_, zero-le}
+use Prim.Native.Nat.{ℕ, _+_, _*_, _^_, _≤_, _<_, zero-le}
 use native.Mathlib.Decide.{ℕ-discrete}
 use native.Mathlib.Nat.{mul-le-mul-right}
 use native.Mathlib.Numerals.{add-one}
 use native.Mathlib.Omega.{arith}
-use borrow.Author.Tests.{eq-eqb, ne-eqb, le-leb, leb-true, eqb-true, not-true}
+use borrow.Author.Tests.{eq-eqb, ne-eqb, le-leb, leb-true, eqb-true}
 use lib.Dec.{eqb, leb, lit<}
-use lib.ListN.{length, getD}
+use lib.ListN.{getD}
 use Rattle.numbers.specs.Eight.{everyOf}
 use Rattle.numbers.proofs.Eight.{both-true, three-true, every-at, every-same}
 use Rattle.numbers.proofs.Fault.{parted}
-use Rattle.waste.specs.Waste.{carbonOf, mostDry, mostCarbonOf}
+use Rattle.waste.specs.Waste.{carbonOf, mostCarbonOf}
 use Rattle.waste.proofs.Laws.{carbon-most}
-use Rattle.record.specs.Fields.{periodOf, kindOf, climateOf, classOf, capturedOf, factorsOf, dryOf, zerosOf, massOf, depositOf}
-use Rattle.record.specs.Ranges.{coded, inRange, dryInRange, light}
-use Rattle.stock.specs.Stock.{mostRecords, ceilingOf, withinOf}
+use Rattle.record.specs.Fields.{periodOf, factorsOf, dryOf, zerosOf, massOf, depositOf}
+use Rattle.record.specs.Ranges.{coded, dryInRange, light}
+use Rattle.stock.specs.Stock.{ceilingOf, withinOf}
 use Rattle.year.specs.Year.{shares, soundYear}
 use Rattle.year.specs.declared.Year.{Year}
 use Rattle.refusal.specs.Refusal.{continues, faultsOf}
@@ -47,21 +47,21 @@ module _ (bytes : List ℕ) where
             ]
       ]
 
-  pub default-kept : (t : ℕ) → mOf bytes t ≡ 0 → depositOf bytes t ≡ depositBy bytes t (getD defaults t 0)
+  -- the deposit is told by the DOC
+  by-content : (t DOC : ℕ) → carbonOf (t + 1) (dryOf bytes (t + 1)) ≡ DOC → depositOf bytes t ≡ depositBy bytes t DOC
   unfolding depositOf
-  default-kept t e = rw (none t e, default-is t)
+  by-content t DOC e = rw e
+
+  pub default-kept : (t : ℕ) → mOf bytes t ≡ 0 → depositOf bytes t ≡ depositBy bytes t (getD defaults t 0)
+  default-kept t e = by-content t (getD defaults t 0) (rw (none t e) (default-is t))
 
   pub domestic-measured : 1 ≤ mOf bytes 6 → depositOf bytes 6 ≡ depositBy bytes 6 (hundredths (domesticPercent (mOf bytes 6)))
-  unfolding depositOf carbonOf dryOf
-  domestic-measured some =
-      let doc : carbonOf 7 (dryOf bytes 7) ≡ hundredths (domesticPercent (mOf bytes 6)) = rw (ne-eqb (mOf bytes 6) 0 (λ z. omega (arith, some, z))) (omega arith) in
-      rw doc
+  unfolding carbonOf dryOf
+  domestic-measured some = by-content 6 (hundredths (domesticPercent (mOf bytes 6))) (rw (ne-eqb (mOf bytes 6) 0 (λ z. omega (arith, some, z))) (omega arith))
 
   pub industrial-measured : 1 ≤ mOf bytes 7 → depositOf bytes 7 ≡ depositBy bytes 7 (hundredths (industrialPercent (mOf bytes 7)))
-  unfolding depositOf carbonOf dryOf
-  industrial-measured some =
-      let doc : carbonOf 8 (dryOf bytes 8) ≡ hundredths (industrialPercent (mOf bytes 7)) = rw (ne-eqb (mOf bytes 7) 0 (λ z. omega (arith, some, z))) (omega arith) in
-      rw doc
+  unfolding carbonOf dryOf
+  industrial-measured some = by-content 7 (hundredths (industrialPercent (mOf bytes 7))) (rw (ne-eqb (mOf bytes 7) 0 (λ z. omega (arith, some, z))) (omega arith))
 
   dry-when : dryInRange bytes ≡ true → Dry bytes
   unfolding dryInRange dryOf
