@@ -1,15 +1,17 @@
 /* Runs one peer, or another entry of the library, over the first records of a monthly file of 1200, or of the same by year or
- * with a dry matter of sludge; or shares a total by the first of 400 samples; or works a correction factor out; or looks an
- * entry of the decay table up; or compares what all peers write, and fails where one refuses a record or a total, library and
- * reference differ, two share a total or look an entry up unlike, or a factor is not as expected.
- * Usage: bench PEER COUNT, bench ENTRY COUNT, bench SHARER COUNT, bench WORKER FACTOR or bench FINDER RATE, with the number
- * in four digits; bench compare */
+ * with a dry matter of sludge; or puts these records right as if they were shuffled; or shares a total by the first of 400
+ * samples; or works a correction factor out; or looks an entry of the decay table up; or compares what all peers write, and
+ * fails where one refuses a record or a total, library and reference differ, two put a file right, share a total or look an
+ * entry up unlike, or a factor is not as expected.
+ * Usage: bench PEER COUNT, bench ENTRY COUNT, bench REPAIRER COUNT, bench SHARER COUNT, bench WORKER FACTOR or bench FINDER
+ * RATE, with the number in four digits; bench compare */
 #include "doubles.h"
 #include "factors.h"
 #include "inputs.h"
 #include "landfill.h"
 #include "look_ups.h"
 #include "reference.h"
+#include "repaired.h"
 #include "sorted.h"
 
 #include <inttypes.h>
@@ -19,10 +21,10 @@
 
 enum { RECORDS = 1200, BYTES = 48, PEERS = 5, ENTRIES = 5, EQUATION = 4, MOST_BY_EQUATION = 120 };
 enum { SAMPLES = 400, TOTAL = 987654321, SHARERS = 3 };
-enum { WORKED = 2, WORKERS = 3, FINDERS = 4 };
+enum { WORKED = 2, WORKERS = 3, FINDERS = 4, REPAIRERS = 3 };
 
 static uint8_t file[RECORDS * BYTES], out[PEERS][RECORDS * BYTES], text[90 * (RECORDS + 1)];
-static uint8_t samples[SAMPLES * LANDFILL_SAMPLE_BYTES];
+static uint8_t samples[SAMPLES * LANDFILL_SAMPLE_BYTES], report[REPAIRERS][RECORDS];
 
 /* Takes correction factor, site class and captured f from the month before. */
 static void repeat_year(uint8_t *record)
@@ -119,6 +121,14 @@ static const struct {
                   {"exp-once", doubles_exp_once},
                   {"equation", doubles_equation}};
 
+/* The repairers take every mass to another place. */
+static const uint8_t order[LANDFILL_ORDER_BYTES] = {6, 3, 8, 1, 7, 2, 4, 5};
+
+static const struct {
+    const char *name;
+    repaired_work *repair;
+} repairers[REPAIRERS] = {{"repair", landfill_repair}, {"repaired", repaired_file}, {"reference-repair", reference_repair}};
+
 typedef uint8_t sharing(uint8_t kind, uint64_t total, const uint8_t *samples, size_t samples_len, uint32_t *masses);
 
 static const struct {
@@ -158,6 +168,23 @@ static int enters(int entry, size_t count)
     uint64_t accepted;
     change_records(entries[entry].kind, entries[entry].measured);
     return entries[entry].run(file, BYTES * count, out[0], sizeof out[0], &accepted) == 0 && accepted == count;
+}
+
+/* Tells whether the first records are put right, with how many changes; for no records there is no call. */
+static int repairs(int it, size_t count, uint64_t *changed)
+{
+    return count == 0 || repairers[it].repair(order, sizeof order, file, BYTES * count, out[it], sizeof out[it], report[it],
+                                              sizeof report[it], changed) == 0;
+}
+
+static int all_repair_alike(void)
+{
+    uint64_t changed[REPAIRERS];
+    for (int it = 0; it < REPAIRERS; it++)
+        if (!repairs(it, RECORDS, &changed[it]) || changed[it] != changed[0] || memcmp(out[it], out[0], sizeof out[0]) != 0 ||
+            memcmp(report[it], report[0], sizeof report[0]) != 0)
+            return 0;
+    return 1;
 }
 
 /* Tells whether the total is shared by a month's 3 samples or a year's; for no samples there is no call. */
@@ -240,15 +267,18 @@ static int all_run_alike(int measured)
 int main(int words, char **word)
 {
     uint32_t masses[LANDFILL_TYPES];
+    uint64_t changed;
     make_months();
     make_samples(samples, SAMPLES);
     if (words == 2 || (words == 3 && strcmp(word[1], "reference") == 0)) reference_start();
     if (words == 2 && strcmp(word[1], "compare") == 0) {
         int alike = all_run_alike(0) && all_run_alike(1) && all_share_alike(3) && all_share_alike(SAMPLES);
-        return alike && all_work_alike() && all_find_alike() ? 0 : 1;
+        return alike && all_work_alike() && all_find_alike() && all_repair_alike() ? 0 : 1;
     }
     for (int entry = 0; words == 3 && entry < ENTRIES; entry++)
         if (strcmp(word[1], entries[entry].name) == 0) return enters(entry, strtoul(word[2], NULL, 10)) ? 0 : 1;
+    for (int it = 0; words == 3 && it < REPAIRERS; it++)
+        if (strcmp(word[1], repairers[it].name) == 0) return repairs(it, strtoul(word[2], NULL, 10), &changed) ? 0 : 1;
     for (int sharer = 0; words == 3 && sharer < SHARERS; sharer++)
         if (strcmp(word[1], sharers[sharer].name) == 0) return shares(sharer, strtoul(word[2], NULL, 10), masses) ? 0 : 1;
     for (int worker = 0; words == 3 && worker < WORKERS; worker++)

@@ -1,7 +1,8 @@
 #!/usr/bin/env bash
-# Measures landfill_run beside four peers in C, landfill_masses and landfill_entry beside one and landfill_factor beside two,
-# and prints the tables of docs/PERFORMANCE.md: instructions for each record, ratios, instructions for one call by samples,
-# by uncertainties and for one look-up, how far the figures are apart, and the library's size.
+# Measures landfill_run beside four peers in C, landfill_repair, landfill_masses and landfill_entry beside one and
+# landfill_factor beside two, and prints the tables of docs/PERFORMANCE.md: instructions for each record, ratios, instructions
+# for each record put right, for one call by samples, by uncertainties and for one look-up, how far the figures are apart, and
+# the library's size.
 # Usage: bash bench/run.sh [--library FILE | --standin]
 set -eu
 cd "$(dirname "$0")/.."
@@ -78,13 +79,18 @@ awk -v peers="$peers" '
 
 # The program's instructions for so many records or samples, or for a factor or a rate, those for none taken off.
 over_none() { echo "$(($($counter "$target/bench" "$1" "$2") - $($counter "$target/bench" "$1" 0000)))"; }
+each() { echo "$(($(over_none "$1" "$2") / 10#$2))"; }
 
 # Other entries of the library on the same 1200 records, two on these as years, and a run where sludge has a dry matter.
-by_entry() { echo "| $1 | $(($(over_none "$2" 1200) / 1200)) |"; }
+by_entry() { echo "| $1 | $(each "$2" 1200) |"; }
 printf '\nInstructions for each of 1200 records by other entries:\n\n| Entry | Instructions |\n|---|---|\n'
 for entry in take listing; do by_entry "\`landfill_$entry\`" $entry; done
 for entry in run take; do by_entry "\`landfill_$entry\` by year" $entry-by-year; done
 by_entry '`landfill_run` with measured sludge' run-with-sludge
+
+# What a call does once, such as testing the order, is in it.
+printf '\nInstructions for each record put right:\n\n| Records | library | plain C |\n|---|---|---|\n'
+for count in $counts; do echo "| $((10#$count)) | $(each repair $count) | $(each repaired $count) |"; done
 
 printf '\nInstructions for one call by samples:\n\n| Samples | library | plain C |\n|---|---|---|\n'
 for count in 0003 0400; do echo "| $((10#$count)) | $(over_none masses $count) | $(over_none sorted $count) |"; done

@@ -46,6 +46,12 @@
  * under 1 percent must not be rounded to 0. m counts for its own record only; the next brings its own, or 0. Records written
  * before there was an m have 0 there, and give what they gave.
  *
+ * Shuffled files. Old editions wrote the eight masses of a record in the order of the translated names of the types. Nothing
+ * in such a file tells so, and a run may take it as it stands, with wrong figures. So it is put right before it is run, and
+ * once only: landfill_repair takes the order of its edition, for each place the type that stood there, and writes the file
+ * anew with every mass at its type's place; it also says which masses are others now. The other bytes of a record are copied:
+ * m in bytes 12 and 13 belongs to types 7 and 8 wherever the masses stood.
+ *
  * Tonnes. A mass is a whole number of kilograms. Tonnes in a float times 1000 often are not: 2.01 * 1000.0 is
  * 2009.9999999999998. Of the 100,000 values 0.01, 0.02, .. 1000.00 t, 1175 come out so (1.2 %), and landfill_cell refuses
  * them with 11. Round first:
@@ -70,6 +76,7 @@ enum {
     LANDFILL_RECORD_BYTES = 48,  /* a record, and an output record */
     LANDFILL_ANSWER_BYTES = 88,  /* the answer of one step */
     LANDFILL_SAMPLE_BYTES = 16,  /* a sorted sample */
+    LANDFILL_ORDER_BYTES = 8,    /* an order of the types */
     LANDFILL_LINE_BYTES = 90,    /* the longest line of the listing, its byte 10 included */
     LANDFILL_RECORDS = 1200,     /* the most records that a ledger takes */
     LANDFILL_LISTING_BYTES = 108090, /* room for the listing of any file: 90 for each of 1201 lines */
@@ -192,28 +199,31 @@ enum {
  * from before, whose ceiling on T has DOC 500 and 900 for types 7 and 8; and a record that has an m is refused by it with 5. */
 
 /* Refusals. A record is tested in the order of 1 to 8, then 17, then 9, a total with its samples in the order of 14 to 16,
- * and uncertainties in the order of 18 and 19; the first that holds is the answer. */
+ * uncertainties in that of 18 and 19, and a file to repair in that of 20 to 22; the first that holds is the answer. */
 enum {
-    LANDFILL_ACCEPTED = 0,          /* not refused */
-    LANDFILL_NOT_48_BYTES = 1,      /* the record is not 48 bytes */
-    LANDFILL_NO_ROOM = 2,           /* an output is too short */
-    LANDFILL_UNSOUND = 3,           /* the ledger image fails a test of the list above */
-    LANDFILL_FULL = 4,              /* the ledger has 1200 records */
-    LANDFILL_NOT_A_CODE = 5,        /* kind, climate or site class is not a code, or bytes 14 and 15 are not both zero */
-    LANDFILL_OUT_OF_TURN = 6,       /* the period is not n + 1 */
-    LANDFILL_OTHER_SERIES = 7,      /* kind or climate differs from the ledger's */
-    LANDFILL_OUT_OF_RANGE = 8,      /* correction factor, OX, F, DOCf, GWP, f or m is outside its range; m even with mass 0 */
-    LANDFILL_MASS_TOO_LARGE = 9,    /* a mass is over 1,000,000,000 kg */
-    LANDFILL_CELL_EMPTY = 10,       /* the cell is empty */
-    LANDFILL_CELL_NOT_WHOLE = 11,   /* the cell is not a whole number: a fraction, infinite or not a number */
-    LANDFILL_CELL_OUTSIDE = 12,     /* the cell is below 0 or above 1,000,000,000 */
-    LANDFILL_POINT_TOO_LARGE = 13,  /* figure and bound add up to more than 9,007,199,254,740,992 */
-    LANDFILL_TOTAL_TOO_LARGE = 14,  /* the total is over 1,000,000,000 kg */
-    LANDFILL_NOT_THE_SAMPLES = 15,  /* the kind is not 1 or 2, or the samples are not whole, or not as many as it asks */
-    LANDFILL_SAMPLE_NOT_WHOLE = 16, /* the fractions of a sample do not add up to 10000 */
-    LANDFILL_NOT_THE_YEARS = 17,    /* correction factor, site class or f differs from that of the year's first month */
-    LANDFILL_OVER_100 = 18,         /* an uncertainty that was entered as a percentage is over 100 */
-    LANDFILL_NOT_A_CHOICE = 19      /* a code of an uncertainty is not 1 or 2 */
+    LANDFILL_ACCEPTED = 0,           /* not refused */
+    LANDFILL_NOT_48_BYTES = 1,       /* the record is not 48 bytes */
+    LANDFILL_NO_ROOM = 2,            /* an output is too short */
+    LANDFILL_UNSOUND = 3,            /* the ledger image fails a test of the list above */
+    LANDFILL_FULL = 4,               /* the ledger has 1200 records */
+    LANDFILL_NOT_A_CODE = 5,         /* kind, climate or site class is not a code, or bytes 14 and 15 are not both zero */
+    LANDFILL_OUT_OF_TURN = 6,        /* the period is not n + 1 */
+    LANDFILL_OTHER_SERIES = 7,       /* kind or climate differs from the ledger's */
+    LANDFILL_OUT_OF_RANGE = 8,       /* correction factor, OX, F, DOCf, GWP, f or m is outside its range; m even with mass 0 */
+    LANDFILL_MASS_TOO_LARGE = 9,     /* a mass is over 1,000,000,000 kg */
+    LANDFILL_CELL_EMPTY = 10,        /* the cell is empty */
+    LANDFILL_CELL_NOT_WHOLE = 11,    /* the cell is not a whole number: a fraction, infinite or not a number */
+    LANDFILL_CELL_OUTSIDE = 12,      /* the cell is below 0 or above 1,000,000,000 */
+    LANDFILL_POINT_TOO_LARGE = 13,   /* figure and bound add up to more than 9,007,199,254,740,992 */
+    LANDFILL_TOTAL_TOO_LARGE = 14,   /* the total is over 1,000,000,000 kg */
+    LANDFILL_NOT_THE_SAMPLES = 15,   /* the kind is not 1 or 2, or the samples are not whole, or not as many as it asks */
+    LANDFILL_SAMPLE_NOT_WHOLE = 16,  /* the fractions of a sample do not add up to 10000 */
+    LANDFILL_NOT_THE_YEARS = 17,     /* correction factor, site class or f differs from that of the year's first month */
+    LANDFILL_OVER_100 = 18,          /* an uncertainty that was entered as a percentage is over 100 */
+    LANDFILL_NOT_A_CHOICE = 19,      /* a code of an uncertainty is not 1 or 2 */
+    LANDFILL_NOT_AN_ORDER = 20,      /* the order is not eight bytes, or does not name each of the types 1 to 8 once */
+    LANDFILL_NOT_WHOLE_RECORDS = 21, /* the length of the file to repair is not a multiple of 48 */
+    LANDFILL_NO_ROOM_FOR_REPAIR = 22 /* the output is shorter than the file, or the report than its number of records */
 };
 
 /* Makes the image a fresh ledger, all zero, and answers 0.
@@ -286,6 +296,20 @@ uint8_t landfill_factor(uint8_t a, uint8_t b, uint8_t c, uint8_t d, uint8_t e, u
  * a and b are percentages, as above. *factor is what landfill_factor gives for the chosen values; it is 39 to 93.
  * Answers 18 when a or b is over 100, then 19 when a code is not 1 or 2, with *factor 0. */
 uint8_t landfill_factor_by_codes(uint8_t a, uint8_t b, uint8_t c, uint8_t d, uint8_t e, uint8_t g, uint8_t *factor);
+
+/* Puts a file right whose masses stood in another order, and answers 0. order is eight bytes: order[0] is the type that stood
+ * at place 1, .. order[7] the one at place 8. So 3 1 2 4 5 6 7 8 says that food stood first, then wood, then paper. Each
+ * record of out becomes that of file, but for the masses: the one that stood at place p + 1 goes to the place of type
+ * order[p]. Bytes 0-15 are copied. Records are not judged: any file of whole records is rewritten, an empty one too.
+ * report gets one byte for each record. Its bit t - 1, worth 2^(t - 1), is set exactly when the mass at place t is not the
+ * number that stood there before; landfill_get_changed reads it. *changed becomes the number of bits set in these bytes.
+ * out needs file_len bytes and report file_len / 48; the bytes of either past its need stay. Repairing out with the inverse
+ * order (landfill_invert) brings back the old file byte for byte, with the same report and the same *changed.
+ * Answers 20 when order_len is not 8 or order does not name each of the types 1 to 8 once, then 21 when file_len is not a
+ * multiple of 48, then 22 when out_len is under file_len or report_len under file_len / 48, with *changed 0; out and report
+ * stay as they are. */
+uint8_t landfill_repair(const uint8_t *order, size_t order_len, const uint8_t *file, size_t file_len, uint8_t *out,
+                        size_t out_len, uint8_t *report, size_t report_len, uint64_t *changed);
 
 /* Helpers, compiled into the caller. They take buffers byte by byte, so that byte order and alignment do not matter. */
 
@@ -381,6 +405,27 @@ static inline int landfill_repeat_year(struct landfill_record *fields, const uin
     return 1;
 }
 
+/* Writes the inverse of an order, the one that undoes it: for each type the place where it stood. Whoever knows an edition so,
+ * by type and not by place, has the inverse of what landfill_repair takes. For eight bytes that are no order it writes eight
+ * zeros, which landfill_repair refuses with 20. */
+static inline void landfill_invert(const uint8_t order[LANDFILL_ORDER_BYTES], uint8_t inverse[LANDFILL_ORDER_BYTES])
+{
+    size_t place, named = 0;
+    for (place = 0; place < LANDFILL_TYPES; place++) inverse[place] = 0;
+    for (place = 0; place < LANDFILL_TYPES; place++)
+        if (order[place] >= 1 && order[place] <= LANDFILL_TYPES) inverse[order[place] - 1] = (uint8_t)(place + 1);
+    for (place = 0; place < LANDFILL_TYPES; place++) named += inverse[place] != 0;
+    for (place = 0; place < LANDFILL_TYPES && named < LANDFILL_TYPES; place++) inverse[place] = 0;
+}
+
+/* Tells by a record's byte in the report of landfill_repair whether the mass of a type, 1 to 8, is another than stood at its
+ * place before: 1 if so, else 0. For a number that is no type it gives 0. */
+static inline int landfill_get_changed(uint8_t changes, unsigned type)
+{
+    if (type < 1 || type > LANDFILL_TYPES) return 0;
+    return changes >> (type - 1) & 1;
+}
+
 /* The fields of an output record. */
 struct landfill_output {
     uint32_t period, kind, climate;
@@ -450,7 +495,10 @@ static inline const char *landfill_refusal_text(unsigned refusal)
         "The fractions of a sample do not add up to 100 percent.",
         "The correction factor, the site class or the captured share is not that of the year's first month.",
         "An uncertainty is over 100 percent.",
-        "A choice between the lower and the higher value is not 1 or 2."
+        "A choice between the lower and the higher value is not 1 or 2.",
+        "The order does not name each of the eight types once.",
+        "The file is not whole records of 48 bytes.",
+        "There is too little room for the repaired file or for its report."
     };
     return refusal < sizeof texts / sizeof texts[0] ? texts[refusal] : "No refusal has this number.";
 }

@@ -80,6 +80,13 @@ def factor_by_codes_line(payload):
     return spaced(reference.factor_by_codes(*payload))
 
 
+def repair_line(payload):
+    output, report = (b"\xa5" * min(number(payload, at, 4), LONGEST) for at in (0, 4))
+    end = 9 + payload[8]
+    answer = reference.repair(payload[9:end], payload[end:], output, report)
+    return spaced([answer.refusal, answer.changed]) + f" {hexed(answer.output)} {hexed(answer.report)}"
+
+
 def fields(ledger):
     return [ledger.n, ledger.kind, ledger.climate, *ledger.year, *ledger.T, *ledger.R, *ledger.released]
 
@@ -108,6 +115,7 @@ KINDS = {
     "m": Kind(masses_line, 9, LONGEST),
     "u": Kind(factor_line, 6, 6),
     "k": Kind(factor_by_codes_line, 6, 6),
+    "o": Kind(repair_line, 9, LONGEST),
 }
 
 

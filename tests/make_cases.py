@@ -5,11 +5,12 @@
   make_cases.py --store
   make_cases.py --check
 
-GROUP is base, door, samples, released, months, uncertainty, sludge, all of these, every-sum or every-rate.
+GROUP is base, door, samples, released, months, uncertainty, sludge, orders, all of these, every-sum, every-rate or
+every-order.
 DIR gets cases.bin and cases.txt, and a pair stop-*.bin, stop-*.txt for each way in which input cannot be read.
-Every run with the same seed writes the same bytes; the stored cases are those of all groups with seed 1. Two groups
+Every run with the same seed writes the same bytes; the stored cases are those of all groups with seed 1. Three groups
 are not among them: every-sum has a case for each sum of squares that uncertainties come to, every-rate a look-up of
-each rate with each of the kinds 1, 2, 0, 3 and 255.
+each rate with each of the kinds 1, 2, 0, 3 and 255, every-order a shuffled record for each order of the types.
 --store writes the stored files anew that the reference decides, and says what changed: the stored cases, their
 lines, and what the listing prints for its sample. --check only compares; its status is 1 where one differs.
 """
@@ -24,6 +25,7 @@ from base_cases import base, every_rate
 from cases import case
 from door_cases import door
 from months_cases import months
+from order_cases import every_order, orders
 from reference import listing, little
 from released_cases import released
 from samples_cases import samples
@@ -32,10 +34,11 @@ from uncertainty_cases import every_sum, uncertainty
 
 ROOT = os.path.join(os.path.dirname(os.path.abspath(__file__)), "..")
 GROUPS = {"base": [base], "door": [door], "samples": [samples], "released": [released], "months": [months]}
-GROUPS |= {"uncertainty": [uncertainty], "sludge": [sludge]}
+GROUPS |= {"uncertainty": [uncertainty], "sludge": [sludge], "orders": [orders]}
 GROUPS["all"] = [cases_of for group in GROUPS.values() for cases_of in group]
 GROUPS["every-sum"] = [every_sum]
 GROUPS["every-rate"] = [every_rate]
+GROUPS["every-order"] = [every_order]
 FIRST = case("d", b"\1\1\0")
 STOPS = {
     "header": FIRST + FIRST[:4],
@@ -51,6 +54,8 @@ STOPS = {
     "factor-7": FIRST + case("u", bytes(7)) + FIRST,
     "codes-5": FIRST + case("k", b"\0\0\1\1\1") + FIRST,
     "codes-7": FIRST + case("k", b"\0\0\1\1\1\1\1") + FIRST,
+    "order-8": FIRST + case("o", bytes(8)) + FIRST,
+    "order-long": FIRST + b"o" + little([(cases.LONGEST + 1, 4)]),
     "payload": FIRST + FIRST[:-1],
 }
 

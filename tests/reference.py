@@ -1,4 +1,4 @@
-"""Document 01 with requests a to d and f of document 02 worked out a second time, to run the Rattle code against.
+"""Document 01 with requests a to d, f and g of document 02 worked out a second time, to run the Rattle code against.
 
 One function for each rule, in the documents' order and with their letters. Numbers are exact, and everything is a
 value: an output buffer goes in as bytes and comes back as bytes. Type j stands at place j - 1 of every list of eight.
@@ -456,3 +456,60 @@ def DOC_of(record):
     domestic = 50 * record.m7 if record.m7 else DOC[6]
     industrial = 900 * record.m8 // 35 if record.m8 else DOC[7]
     return *DOC[:6], domestic, industrial
+
+
+# Document 02, request g: the shuffled files put right
+
+TYPES = (1, 2, 3, 4, 5, 6, 7, 8)
+MASSES = 16  # where the masses of a record begin
+
+
+class Repair(NamedTuple):
+    refusal: int
+    changed: int  # bits set in the file's bytes of the report
+    output: bytes
+    report: bytes
+
+
+def is_order(order):
+    """Whether refusal 20 does not hold: each of the types is named once."""
+    return sorted(order) == [*TYPES]
+
+
+def refusal_of_repair(order, file, room, report_room):
+    """The number of the first fault, or 0."""
+    if not is_order(order):
+        return 20
+    if len(file) % BYTES != 0:
+        return 21
+    if room < len(file) or report_room < len(file) // BYTES:
+        return 22
+    return 0
+
+
+def mass_at(data, t):
+    """The mass at place t of a record's bytes."""
+    return number(data, MASSES + 4 * (t - 1), 4)
+
+
+def put_right(order, data):
+    """A record's bytes with every mass at its type's place; the order says for each place which type stood there."""
+    of_type = {t: mass_at(data, place) for place, t in enumerate(order, 1)}
+    return data[:MASSES] + little((of_type[t], 4) for t in TYPES)
+
+
+def changes(old, new):
+    """A record's byte of the report: bit t - 1 is set where the mass at place t is not the one that stood there."""
+    return sum(1 << t - 1 for t in TYPES if mass_at(new, t) != mass_at(old, t))
+
+
+def repair(order, file, output, report):
+    """Rewrites a file of records, with an output buffer and a report buffer."""
+    refusal = refusal_of_repair(order, file, len(output), len(report))
+    if refusal:
+        return Repair(refusal, 0, output, report)
+    old = records_of(file)
+    new = [put_right(order, data) for data in old]
+    told = bytes(map(changes, old, new))
+    changed = sum(byte.bit_count() for byte in told)
+    return Repair(0, changed, b"".join(new) + output[len(file) :], told + report[len(told) :])

@@ -1,10 +1,13 @@
-"""The documents told a second time: the sources' tables as they stand there, and equations of 000 in fractions.
+"""The documents told a second time: the sources' tables as they stand there, equations of 000 in fractions, and the
+repair of shuffled files by columns.
 
 Row names, units and digits are the sources' own. Nothing here is taken from the reference, so that selftest.py sees
 a slip in a constant of either.
 """
+import struct
 from decimal import Context, Decimal
 from fractions import Fraction
+from itertools import chain
 from math import floor, isqrt
 
 # Source 001, parameter DOC_j, "Default values for DOC_j": % of wet waste.
@@ -194,3 +197,25 @@ def model_correction(V_squared):
 def corrected(*factors):
     """Equations (3) and (4) for the factors a, b, c, d, e and g, in the words of Table 3."""
     return model_correction(sum(percentage(factor) ** 2 for factor in factors))
+
+
+def first_fault(order, file, room, report_room):
+    """Request g's refusals: of all that hold, the lowest number, or 0."""
+    records, rest = divmod(len(file), 48)
+    misnamed = len(order) != 8 or any(order.count(t) != 1 for t in range(1, 9))
+    faults = (20, misnamed), (21, rest > 0), (22, room < len(file)), (22, report_room < records)
+    return min((number for number, holds in faults if holds), default=0)
+
+
+def repaired(order, file, output, report):
+    """Request g with the file as twelve columns of four bytes: the last eight change places, and are compared whole."""
+    refusal = first_fault(order, file, len(output), len(report))
+    if refusal:
+        return refusal, 0, output, report
+    words = struct.unpack(f"<{len(file) // 4}I", file)
+    kept, old = [words[j::12] for j in range(4)], [words[j::12] for j in range(4, 12)]
+    new = [old[order.index(t)] for t in range(1, 9)]
+    others = [[mass != was for mass, was in zip(*columns, strict=True)] for columns in zip(new, old, strict=True)]
+    told = bytes(sum(2**j for j, other in enumerate(row) if other) for row in zip(*others, strict=True))
+    written = struct.pack(f"<{len(words)}I", *chain(*zip(*kept, *new, strict=True)))
+    return 0, sum(map(sum, others)), written + output[len(written) :], told + report[len(told) :]

@@ -2,7 +2,7 @@
 """Holds the reference to all that document 01 prints, to the sources' own tables and equations, and to demand 3.
 
 Of document 02 it holds masses from samples, the carbon released so far, months that share the year's factors, the
-correction factor from uncertainties, and sludge with a measured dry matter.
+correction factor from uncertainties, sludge with a measured dry matter, and the shuffled files put right.
 
 Prints ok and exits 0, or stops at the first check that fails.
 """
@@ -17,6 +17,7 @@ from math import factorial
 import cases
 import decay_tables
 import months_checks
+import order_checks
 import reference
 import retold
 import samples_cases
@@ -358,6 +359,9 @@ def main():
     uncertainty_checks.chosen()
     uncertainty_checks.every_byte()
     uncertainty_checks.in_order()
+    order_checks.worked()
+    order_checks.named_once()
+    order_checks.every_room()
     tables()
     in_whole_numbers()
     unlikely()
@@ -377,8 +381,11 @@ def main():
     for kind, Z in [(2, 3)] * 300 + [(1, rng.randint(12, 40)) for _ in range(50)] + [(1, 400)] * 3:
         sampled(fair_sorting(rng, kind, Z))
     uncertainty_checks.never_higher(rng)
+    order_checks.in_order(rng)
+    order_checks.at_random(rng)
     cases_page()
     uncertainty_checks.every_sum()
+    order_checks.every_order(rng)
     print("ok")
 
 

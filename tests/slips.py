@@ -1,7 +1,9 @@
 #!/usr/bin/env python3
 """A test of the selftest: changes each number of the reference by one, up and down, and sees the selftest fail.
 
-  slips.py    names every change that goes unseen, then counts; status 1 where there is one (a minute or two)
+And one of the stored cases of request g: sees them answered otherwise by every wrong reading in order_slips.py.
+
+  slips.py    names every change and reading that goes unseen, then counts; status 1 where there is one (some minutes)
 """
 import ast
 import os
@@ -9,6 +11,8 @@ import shutil
 import subprocess
 import sys
 import tempfile
+
+import order_slips
 
 ROOT = os.path.join(os.path.dirname(os.path.abspath(__file__)), "..")
 FILE = os.path.join("tests", "reference.py")
@@ -56,10 +60,14 @@ def main():
             raise SystemExit("the selftest fails with nothing changed")
         tried = list(slips(lines))
         unseen = [(at, slip) for at, slip in tried if passes(copy, lines[:at] + [slip] + lines[at + 1 :])]
+    misread = list(order_slips.unseen())
     for at, slip in unseen:
         print(f"NOT SEEN: {FILE}:{at + 1}: {slip.strip()}")
-    print(f"slips: {len(tried) - len(unseen)} seen, {len(unseen)} unseen")
-    return 1 if unseen else 0
+    for name in misread:
+        print(f"NOT SEEN: request g read as: {name}")
+    count, missed = len(tried) + len(order_slips.READINGS), len(unseen) + len(misread)
+    print(f"slips: {count - missed} seen, {missed} unseen")
+    return 1 if missed else 0
 
 
 if __name__ == "__main__":

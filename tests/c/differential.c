@@ -1,6 +1,7 @@
 /* Runs the library and the reference on many inputs, good and bad, and compares every answer and every byte.
  * Usage: differential [SEED] */
 #include "offers.h"
+#include "orders.h"
 #include "reference.h"
 #include "sides.h"
 #include "sludge.h"
@@ -304,6 +305,7 @@ int main(int count, char **words)
     all_lengths();
     all_faults();
     all_uncertainties();
+    all_orders();
     all_years();
     all_sludge();
     all_look_ups();

@@ -1,5 +1,5 @@
 /* A first program with the library: two years of the site that docs/METHOD.md works by hand, a month that was sorted, a
- * correction factor from uncertainties, and sludge whose dry matter was measured.
+ * correction factor from uncertainties, sludge whose dry matter was measured, and a shuffled file that is put right.
  * Build it with: gcc -Iinclude tests/c/example.c target/staticlib/libabi.a */
 #include "landfill.h"
 
@@ -102,6 +102,27 @@ static void sludge_year(struct landfill_record year)
     take_first("year 1", &year);
 }
 
+/* The site's first year in a file of an old edition, which wrote food first, then wood, then paper, then the others in turn:
+ * put right, and then run. Its figure is the same as above. */
+static void shuffled_file(struct landfill_record year)
+{
+    static const uint8_t order[LANDFILL_ORDER_BYTES] = {LANDFILL_FOOD, LANDFILL_WOOD, LANDFILL_PAPER, 4, 5, 6, 7, 8};
+    uint8_t old[LANDFILL_RECORD_BYTES], file[sizeof old], report[1], ledger[LANDFILL_LEDGER_BYTES], out[sizeof file];
+    uint64_t changed, accepted;
+    year.period = 1;
+    year.mass[1] = weighed(400.2); /* place 1 has food */
+    year.mass[2] = 0;
+    year.mass[3] = weighed(121.5); /* place 3 has paper */
+    year.mass[6] = weighed(150);
+    landfill_put_record(old, &year);
+    expect("repair", landfill_repair(order, sizeof order, old, sizeof old, file, sizeof file, report, sizeof report, &changed));
+    printf("an old file put right: %" PRIu64 " masses changed, that of inert waste %s\n", changed,
+           landfill_get_changed(report[0], LANDFILL_INERT) ? "too" : "not");
+    landfill_fresh(ledger, sizeof ledger);
+    expect("year 1", landfill_run(ledger, sizeof ledger, file, sizeof file, out, sizeof out, &accepted));
+    print_output(out);
+}
+
 int main(void)
 {
     uint8_t ledger[LANDFILL_LEDGER_BYTES], first[LANDFILL_RECORD_BYTES], later[2 * LANDFILL_RECORD_BYTES];
@@ -155,5 +176,6 @@ int main(void)
     sorted_month(year);
     managed_year(year);
     sludge_year(year);
+    shuffled_file(year);
     return 0;
 }

@@ -43,21 +43,22 @@ static void check_codes(void)
                                    LANDFILL_OUT_OF_RANGE, LANDFILL_MASS_TOO_LARGE, LANDFILL_CELL_EMPTY,
                                    LANDFILL_CELL_NOT_WHOLE, LANDFILL_CELL_OUTSIDE, LANDFILL_POINT_TOO_LARGE,
                                    LANDFILL_TOTAL_TOO_LARGE, LANDFILL_NOT_THE_SAMPLES, LANDFILL_SAMPLE_NOT_WHOLE,
-                                   LANDFILL_NOT_THE_YEARS, LANDFILL_OVER_100, LANDFILL_NOT_A_CHOICE};
+                                   LANDFILL_NOT_THE_YEARS, LANDFILL_OVER_100, LANDFILL_NOT_A_CHOICE,
+                                   LANDFILL_NOT_AN_ORDER, LANDFILL_NOT_WHOLE_RECORDS, LANDFILL_NO_ROOM_FOR_REPAIR};
     check_row("a kind", kinds, 2, 1, 1);
     check_row("a climate", climates, 4, 1, 1);
     check_row("a site class", classes, 4, 1, 1);
     check_row("a choice of an uncertainty", choices, 2, 1, 1);
     check_row("a waste type", types, 8, 1, 1);
     check("the number of types", LANDFILL_TYPES == 8);
-    check_row("a refusal", refusals, 20, 0, 1);
+    check_row("a refusal", refusals, 23, 0, 1);
 }
 
 static void check_sizes(void)
 {
     check("a size", LANDFILL_LEDGER_BYTES == 200 && LANDFILL_RECORD_BYTES == 48 && LANDFILL_ANSWER_BYTES == 88);
     check("the size of a line or a listing", LANDFILL_LINE_BYTES == 90 && LANDFILL_LISTING_BYTES == 1201 * 90);
-    check("the size of a sample", LANDFILL_SAMPLE_BYTES == 16);
+    check("the size of a sample or of an order", LANDFILL_SAMPLE_BYTES == 16 && LANDFILL_ORDER_BYTES == 8);
     check("a limit", LANDFILL_RECORDS == 1200 && LANDFILL_MASS_LIMIT == 1000000000);
 }
 
@@ -283,6 +284,53 @@ static void check_year(void)
     check("landfill_repeat_year by any kind", any);
 }
 
+static void check_inverse(const char *name, const uint8_t *order, const uint8_t *want)
+{
+    uint8_t room[1 + LANDFILL_ORDER_BYTES + 1];
+    memset(room, 0xa5, sizeof room);
+    landfill_invert(order, room + 1);
+    check_bytes(name, room + 1, want, LANDFILL_ORDER_BYTES);
+    check("a byte beside the inverse order", room[0] == 0xa5 && room[sizeof room - 1] == 0xa5);
+}
+
+/* Orders and their inverses, and every byte at each place of an order. */
+static void check_invert(void)
+{
+    static const uint8_t orders[4][2][8] = {{{1, 2, 3, 4, 5, 6, 7, 8}, {1, 2, 3, 4, 5, 6, 7, 8}},
+                                            {{3, 1, 2, 4, 5, 6, 7, 8}, {2, 3, 1, 4, 5, 6, 7, 8}},
+                                            {{8, 7, 6, 5, 4, 3, 2, 1}, {8, 7, 6, 5, 4, 3, 2, 1}},
+                                            {{6, 3, 8, 1, 7, 2, 4, 5}, {4, 6, 2, 7, 8, 1, 5, 3}}};
+    static const uint8_t zeros[8] = {0, 0, 0, 0, 0, 0, 0, 0}, ones[8] = {1, 1, 1, 1, 1, 1, 1, 1};
+    uint8_t order[8];
+    size_t i, place, byte;
+    for (i = 0; i < 4; i++) {
+        check_inverse("landfill_invert", orders[i][0], orders[i][1]);
+        check_inverse("landfill_invert of an inverse", orders[i][1], orders[i][0]);
+    }
+    for (place = 0; place < 8; place++)
+        for (byte = 0; byte <= 255; byte++) {
+            memcpy(order, orders[3][0], sizeof order);
+            order[place] = (uint8_t)byte;
+            check_inverse("landfill_invert of a changed order", order, byte == orders[3][0][place] ? orders[3][1] : zeros);
+        }
+    check_inverse("landfill_invert of zeros", zeros, zeros);
+    check_inverse("landfill_invert of ones", ones, zeros);
+}
+
+static void check_changed(void)
+{
+    static const unsigned no_types[] = {0, 9, 32, 33, (unsigned)-1};
+    unsigned type, i;
+    for (type = 1; type <= LANDFILL_TYPES; type++) {
+        uint8_t bit = (uint8_t)(1u << (type - 1));
+        check("landfill_get_changed", landfill_get_changed(bit, type) == 1 && landfill_get_changed(255, type) == 1);
+        check("landfill_get_changed of what has stayed",
+              landfill_get_changed((uint8_t)(255 - bit), type) == 0 && landfill_get_changed(0, type) == 0);
+    }
+    check("landfill_get_changed by a type's name", landfill_get_changed(4, LANDFILL_FOOD) == 1);
+    for (i = 0; i < 5; i++) check("landfill_get_changed of no type", landfill_get_changed(255, no_types[i]) == 0);
+}
+
 static void check_kg(void)
 {
     static const struct {
@@ -304,7 +352,7 @@ static void check_text(unsigned refusal, const char *text)
 static void check_texts(void)
 {
     unsigned refusal;
-    for (refusal = 0; refusal <= 19; refusal++) check("a text", strchr(landfill_refusal_text(refusal), '.') != NULL);
+    for (refusal = 0; refusal <= 22; refusal++) check("a text", strchr(landfill_refusal_text(refusal), '.') != NULL);
     check_text(LANDFILL_ACCEPTED, "Accepted.");
     check_text(LANDFILL_NOT_A_CODE,
                "The kind, the climate or the site class is not a code, or bytes 14 and 15 are not zero.");
@@ -317,7 +365,10 @@ static void check_texts(void)
                "The correction factor, the site class or the captured share is not that of the year's first month.");
     check_text(LANDFILL_OVER_100, "An uncertainty is over 100 percent.");
     check_text(LANDFILL_NOT_A_CHOICE, "A choice between the lower and the higher value is not 1 or 2.");
-    check_text(20, "No refusal has this number.");
+    check_text(LANDFILL_NOT_AN_ORDER, "The order does not name each of the eight types once.");
+    check_text(LANDFILL_NOT_WHOLE_RECORDS, "The file is not whole records of 48 bytes.");
+    check_text(LANDFILL_NO_ROOM_FOR_REPAIR, "There is too little room for the repaired file or for its report.");
+    check_text(23, "No refusal has this number.");
     check_text((unsigned)-1, "No refusal has this number.");
 }
 
@@ -335,6 +386,8 @@ int main(void)
     check_output();
     check_released();
     check_year();
+    check_invert();
+    check_changed();
     check_kg();
     check_texts();
     return wrong;

@@ -373,3 +373,56 @@ uint8_t reference_factor_by_codes(uint8_t a, uint8_t b, uint8_t c, uint8_t d, ui
     }
     return reference_factor(a, b, chosen[0], chosen[1], chosen[2], chosen[3], factor);
 }
+
+/* ---- Shuffled files put right */
+
+static bool is_order(const uint8_t *order, size_t order_len)
+{
+    if (order_len != TYPES) return false;
+    for (int type = 1; type <= TYPES; type++) {
+        int named = 0;
+        for (int p = 0; p < TYPES; p++) named += order[p] == type;
+        if (named != 1) return false;
+    }
+    return true;
+}
+
+static uint8_t refusal_of_repair(const uint8_t *order, size_t order_len, size_t file_len, size_t out_len, size_t report_len)
+{
+    if (!is_order(order, order_len)) return 20;
+    if (file_len % BYTES != 0) return 21;
+    if (out_len < file_len || report_len < file_len / BYTES) return 22;
+    return 0;
+}
+
+/* Writes a record with every mass at its type's place. */
+static void put_right(const uint8_t *order, const uint8_t *record, uint8_t *out)
+{
+    struct record it = fields(record);
+    for (int i = 0; i < 16; i++) out[i] = record[i];
+    for (int p = 0; p < TYPES; p++) reference_write(out + 16 + 4 * (order[p] - 1), 4, it.mass[p]);
+}
+
+/* The bits of the types whose place has another mass than before; the lowest is type 1's. */
+static uint8_t changes(const uint8_t *before, const uint8_t *after)
+{
+    struct record old = fields(before), new = fields(after);
+    uint8_t bits = 0;
+    for (int t = 0; t < TYPES; t++)
+        if (new.mass[t] != old.mass[t]) bits |= (uint8_t)(1 << t);
+    return bits;
+}
+
+uint8_t reference_repair(const uint8_t *order, size_t order_len, const uint8_t *file, size_t file_len, uint8_t *out,
+                         size_t out_len, uint8_t *report, size_t report_len, uint64_t *changed)
+{
+    *changed = 0;
+    uint8_t refusal = refusal_of_repair(order, order_len, file_len, out_len, report_len);
+    if (refusal != 0) return refusal;
+    for (size_t i = 0; i < file_len / BYTES; i++) {
+        put_right(order, file + BYTES * i, out + BYTES * i);
+        report[i] = changes(file + BYTES * i, out + BYTES * i);
+        for (int t = 0; t < TYPES; t++) *changed += report[i] >> t & 1;
+    }
+    return 0;
+}

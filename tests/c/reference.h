@@ -35,7 +35,7 @@ uint64_t reference_total(const uint64_t of_types[8]);
 uint64_t reference_read(const uint8_t *bytes, int count);
 void reference_write(uint8_t *bytes, int count, uint64_t number);
 
-/* The entries of landfill.h, with the same meaning (entries.c; look-up, masses and factors in reference.c). */
+/* The entries of landfill.h, with the same meaning (entries.c; look-up, masses, factors and repair in reference.c). */
 uint8_t reference_fresh(uint8_t *ledger, size_t ledger_len);
 uint8_t reference_take(uint8_t *ledger, size_t ledger_len, const uint8_t *record, size_t record_len, uint8_t *out,
                        size_t out_len, uint8_t *answer, size_t answer_len);
@@ -50,5 +50,7 @@ uint8_t reference_listing(const uint8_t *records, size_t records_len, uint8_t *t
 uint8_t reference_masses(uint8_t kind, uint64_t total, const uint8_t *samples, size_t samples_len, uint32_t masses[8]);
 uint8_t reference_factor(uint8_t a, uint8_t b, uint8_t c, uint8_t d, uint8_t e, uint8_t g, uint8_t *factor);
 uint8_t reference_factor_by_codes(uint8_t a, uint8_t b, uint8_t c, uint8_t d, uint8_t e, uint8_t g, uint8_t *factor);
+uint8_t reference_repair(const uint8_t *order, size_t order_len, const uint8_t *file, size_t file_len, uint8_t *out,
+                         size_t out_len, uint8_t *report, size_t report_len, uint64_t *changed);
 
 #endif

@@ -14,11 +14,11 @@ enum { PATTERN = 0xA5 };
 
 static const struct entries LIBRARY = {landfill_fresh,  landfill_take,   landfill_run,   landfill_totals,
                                        landfill_entry,  landfill_cell,   landfill_point, landfill_listing,
-                                       landfill_masses, landfill_factor, landfill_factor_by_codes};
+                                       landfill_masses, landfill_factor, landfill_factor_by_codes, landfill_repair};
 static const struct entries REFERENCE = {reference_fresh,  reference_take,   reference_run,   reference_totals,
                                          reference_entry,  reference_cell,   reference_point, reference_listing,
-                                         reference_masses, reference_factor, reference_factor_by_codes};
-static const char *const NAMES[PLACES] = {"ledger", "records", "out", "answer", "text", "samples"};
+                                         reference_masses, reference_factor, reference_factor_by_codes, reference_repair};
+static const char *const NAMES[PLACES] = {"ledger", "records", "out", "answer", "text", "samples", "order", "report"};
 
 struct given given;
 static struct side before, library, reference;
@@ -53,6 +53,11 @@ size_t length_of(enum place place)
 const uint8_t *left(enum place place)
 {
     return at(&library, place);
+}
+
+uint64_t number_left(void)
+{
+    return library.numbers.whole[1];
 }
 
 uint64_t calls(void)

@@ -6,8 +6,8 @@
 #include <stddef.h>
 #include <stdint.h>
 
-enum place { LEDGER, RECORDS, OUT, ANSWER, TEXT, SAMPLES, PLACES };
-enum { ZONE = 64, LONGEST = 131072, ROOM = ZONE + 8 + LONGEST + ZONE };
+enum place { LEDGER, RECORDS, OUT, ANSWER, TEXT, SAMPLES, ORDER, REPORT, PLACES };
+enum { ZONE = 64, LONGEST = 524288, ROOM = ZONE + 8 + LONGEST + ZONE };
 
 /* The numbers that an entry writes behind pointers stand at the odd places; the even ones are red zones. A place of masses
  * or factors is a row of eight, and where an entry writes one of them, it is the first. */
@@ -46,6 +46,7 @@ struct entries {
     uint8_t (*masses)(uint8_t, uint64_t, const uint8_t *, size_t, uint32_t *);
     uint8_t (*factor)(uint8_t, uint8_t, uint8_t, uint8_t, uint8_t, uint8_t, uint8_t *);
     uint8_t (*factor_by_codes)(uint8_t, uint8_t, uint8_t, uint8_t, uint8_t, uint8_t, uint8_t *);
+    uint8_t (*repair)(const uint8_t *, size_t, const uint8_t *, size_t, uint8_t *, size_t, uint8_t *, size_t, uint64_t *);
 };
 
 typedef void call(const struct entries *entries, struct side *side);
@@ -55,10 +56,12 @@ extern struct given given;
 /* Lends a buffer of so many random bytes for the next call, and gives its bytes to be filled. */
 uint8_t *lend(enum place place, size_t length);
 
-/* A lent buffer's bytes as one side has them, its length, and its bytes after the last call. */
+/* A lent buffer's bytes as one side has them, its length, and its bytes after the last call; the first whole number that the
+ * last call has written. */
 uint8_t *at(struct side *side, enum place place);
 size_t length_of(enum place place);
 const uint8_t *left(enum place place);
+uint64_t number_left(void);
 
 /* Makes the call on both sides and compares; prints the difference in full and ends the program where there is one.
  * After it no buffer is lent. */

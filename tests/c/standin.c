@@ -65,3 +65,9 @@ uint8_t landfill_factor_by_codes(uint8_t a, uint8_t b, uint8_t c, uint8_t d, uin
 {
     return reference_factor_by_codes(a, b, c, d, e, g, factor);
 }
+
+uint8_t landfill_repair(const uint8_t *order, size_t order_len, const uint8_t *file, size_t file_len, uint8_t *out,
+                        size_t out_len, uint8_t *report, size_t report_len, uint64_t *changed)
+{
+    return reference_repair(order, order_len, file, file_len, out, out_len, report, report_len, changed);
+}

@@ -12,6 +12,7 @@ ghost use Rattle.ledger.specs.Take.{totalsOf};
 ghost use Rattle.image.specs.Image.{imageBytes, ledgerOf};
 ghost use Rattle.samples.specs.Samples.{sortedOf};
 ghost use Rattle.uncertainty.specs.Uncertainty.{entering, byPercentages, byCodes};
+ghost use Rattle.order.specs.Repair.{repairedOf, outLeft, reportLeft};
 ghost use Rattle.lines.specs.Listing.{listedOf, textOf};
 ghost use Rattle.calls.specs.Calls.{takeHere, takeImage, takeOut, takeAnswer, runHere, runImage};
 ghost use Rattle.abi.specs.Entries.{freshLeft, cellOf};
@@ -149,6 +150,26 @@ pub extern "C" fn landfill_factor_by_codes(
     let answer = Uncertainties { a, b, c, d, e, g }.by_codes();
     *factor = answer.factor;
     answer.refusal
+}
+
+// Rewrites a file with every mass at its type's place, reports which masses are not as they were, a byte for each record, and answers 0
+// and how many bits of the report are set; or 20, 21 or 22 and 0, with nothing written.
+#[no_mangle]
+pub extern "C" fn landfill_repair(
+    order: &[u8],
+    file: &[u8],
+    out: &mut [u8],
+    report: &mut [u8],
+    changed: &mut u64,
+) -> u8
+    ensures { λ r. ⌜ r ≡ repairedOf (now (order .entry)) (now (file .entry)) (now (out .entry)) (now (report .entry)) .refusal ⌝ }
+    ensures { λ _. ⌜ now (out .exit) ≡ outLeft (now (order .entry)) (now (file .entry)) (now (out .entry)) (now (report .entry)) ⌝ }
+    ensures { λ _. ⌜ now (report .exit) ≡ reportLeft (now (order .entry)) (now (file .entry)) (now (out .entry)) (now (report .entry)) ⌝ }
+    ensures { λ _. ⌜ now (changed .exit) ≡ repairedOf (now (order .entry)) (now (file .entry)) (now (out .entry)) (now (report .entry)) .changed ⌝ }
+{
+    let repaired = order::repair(order, file, out, report);
+    *changed = repaired.changed;
+    repaired.refusal
 }
 
 // Answers 0 and a figure's point of the chart, or 13 and zeros.

@@ -5,9 +5,9 @@ use Prim.Native.Nat.{ℕ, zero, suc, _+_, _-_, _*_, _/_, _%_, _^_, _≤_, _<_}
 use native.Mathlib.Nat.{zero-add, add-zero, suc-add, pow-zero, pow-suc}
 use native.Mathlib.Numerals.{add-one}
 use native.Mathlib.Omega.{arith}
-use lib.ListN.{length, drop, getD, set, length-set, length-append}
-use lib.Seq.{sets, sets-eq, getD-set-same, getD-set-other, getD-drop}
-use Rattle.numbers.specs.Bytes.{numberAt, bytesOf, rowOf}
+use lib.ListN.{length, take, drop, getD, set, length-set}
+use lib.Seq.{sets, sets-eq, getD-set-same, getD-set-other, getD-take, getD-drop}
+use Rattle.numbers.specs.Bytes.{numberAt, bytesOf}
 
 pub number-join : (j k : ℕ) (s : List ℕ) (at : ℕ) → numberAt (j + k) s at ≡ numberAt j s at + 256 ^ j * numberAt k s (at + j)
 number-join zero k s at = rw (zero-add k, add-zero at, pow-zero) (omega arith)
@@ -79,12 +79,10 @@ number-drop (suc k) m j bytes =
     let next : m + j + 1 ≡ m + (j + 1) = omega arith in
     rw (next, number-drop k m (j + 1) bytes, getD-drop m bytes j 0)
 
--- A row of numbers: how long it is, and one number more behind it.
-pub row-length : (f : ℕ → ℕ) (k : ℕ) → length (rowOf f k) ≡ 8 * k
-row-length f zero = refl
-row-length f (suc k) = simp length-append (omega (arith, row-length f k, bytes-length 8 (f k)))
+-- A number within the first bytes is made of them alone; so it is made of its own bytes.
+number-take : (k n at : ℕ) (bytes : List ℕ) → at + k ≤ n → numberAt k (take n bytes) at ≡ numberAt k bytes at
+number-take zero n at bytes h = refl
+number-take (suc k) n at bytes h = rw (getD-take n bytes at 0 (omega arith), number-take k n (at + 1) bytes (omega arith))
 
-pub row-more : (f : ℕ → ℕ) (out : List ℕ) (at t : ℕ) {m r : List ℕ} → m ≡ sets out at (rowOf f t) → r ≡ sets m (at + 8 * t) (bytesOf 8 (f t)) → r ≡ sets out at (rowOf f (t + 1))
-row-more f out at t p q =
-    let place : at + 8 * t ≡ at + length (rowOf f t) = omega (arith, row-length f t) in
-    q ∙ rw (p, place, add-one t) (sets-join (rowOf f t) (bytesOf 8 (f t)) out at)
+pub number-own : (k at : ℕ) (bytes : List ℕ) → numberAt k bytes at ≡ numberAt k (take k (drop at bytes)) 0
+number-own k at bytes = rw (number-take k k 0 (drop at bytes) (omega arith), ← number-drop k at 0 bytes, add-zero at)

@@ -22,7 +22,11 @@ module _ (f : ℕ → ℕ) (t : ℕ) where
   pub sum-more : {n x : ℕ} → n ≡ sumOf f t → x ≡ f t → n + x ≡ sumOf f (t + 1)
   sum-more p q = rw (add-one, p, q)
 
--- A sum of equal numbers, one of smaller numbers, one of small numbers, and a part of a sum.
+-- A sum of the same numbers, one of equal numbers, one of smaller numbers, one of small numbers, and a part of a sum.
+pub sum-same : (f g : ℕ → ℕ) (k : ℕ) → ((t : ℕ) → t < k → f t ≡ g t) → sumOf f k ≡ sumOf g k
+sum-same f g zero h = refl
+sum-same f g (suc k) h = rw (sum-same f g k (λ t l. h t (omega arith)), h k (omega arith))
+
 pub sum-each : (f : ℕ → ℕ) (b k : ℕ) → ((t : ℕ) → t < k → f t ≡ b) → sumOf f k ≡ k * b
 sum-each f b zero h = omega arith
 sum-each f b (suc k) h = omega (arith, sum-each f b k (λ t l. h t (omega arith)), h k (omega arith))

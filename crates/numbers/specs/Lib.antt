@@ -1,5 +1,5 @@
 pub mod Fraction
+pub mod Lists
 pub mod Bytes
 pub mod Eight
 pub mod Fault
-pub mod Lists

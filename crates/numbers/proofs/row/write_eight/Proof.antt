@@ -1,13 +1,14 @@
 -- Before place t the loop has written the row of the first t numbers.
 use mathlib.Core.Path.{_≡_}
-use Prim.Native.Nat.{_-_, _≤_}
+use Prim.Native.Nat.{ℕ, _-_, _≤_}
 use native.Mathlib.Omega.{arith}
 use borrow.Author.Needs.{needs}
 use denote.Ref.{now}
 use lib.ListN.{length, getD}
 use lib.Seq.{sets, length-sets}
-use Rattle.numbers.specs.Bytes.{rowOf}
-use Rattle.numbers.proofs.Bytes.{row-more}
+use Rattle.numbers.specs.Bytes.{bytesOf, rowOf}
+use Rattle.numbers.proofs.Bytes.{bytes-length}
+use Rattle.numbers.proofs.Joined.{joined-more}
 use Rattle.numbers.proofs.row.write_eight.Statement.{statement}
 use Rattle.numbers.proofs.row.write_eight.Tie as tie
 
@@ -21,7 +22,8 @@ loop-again : tie.Need-loop-again Inv-loop μ-loop
 loop-again c =
     let a = c .before .before .before .before .before .before .before .args in
     let loop = c .before .before .before .before .before .loop in
-    let here = row-more (λ u. getD (a .t3) u 0) (a .out .now) (a .at) (loop .t) (loop .inv .1) (c .before .before .write-u64 .ensures) in
+    let value : ℕ → ℕ = λ u. getD (a .t3) u 0 in
+    let here = joined-more (λ u. bytesOf 8 (value u)) 8 8 (λ u l. bytes-length 8 (value u)) (loop .t) (loop .inv .0) (a .out .now) (a .at) (loop .inv .1) (c .before .before .write-u64 .ensures) in
     (omega arith, here, rw (here, length-sets))
 
 returns : tie.Need-returns Inv-loop μ-loop

@@ -1,0 +1,4 @@
+pub mod Bits
+pub mod Named
+pub mod Records
+pub mod Answer

@@ -1,0 +1,64 @@
+-- Laws of a record that is rewritten: its head is the old one, and each mass is the old one of the place that it comes from.
+use mathlib.Core.Path.{_≡_, refl, sym, ap, _∙_}
+use mathlib.Core.Bool.{Bool, not}
+use mathlib.Core.List.{List, _++_}
+use Prim.Native.Nat.{ℕ, _+_, _-_, _*_, _/_, _<_, _≤_}
+use native.Mathlib.Nat.{add-sub-cancel-left}
+use native.Mathlib.Omega.{arith}
+use lib.Dec.{eqb}
+use lib.ListN.{length, take, drop, length-append, length-drop}
+use lib.Seq.{length-take-le, take-at, drop-append-add}
+use Rattle.numbers.specs.Bytes.{numberAt}
+use Rattle.numbers.specs.Lists.{joined}
+use Rattle.numbers.proofs.Bytes.{number-own}
+use Rattle.numbers.proofs.Joined.{joined-same, joined-length, joined-part}
+use Rattle.record.specs.Fields.{massOf}
+use Rattle.order.specs.Repair.{headOf, massBytes, rewritten, isOther, recordIn, numberOfRecords}
+
+pub mass-own : (bytes : List ℕ) (t : ℕ) → massOf bytes t ≡ numberAt 4 (massBytes bytes t) 0
+unfolding massOf
+mass-own bytes t = number-own 4 (16 + 4 * t) bytes
+
+-- A part of so many bytes from a place on, as a slice has it.
+pub part-is : (at k : ℕ) (bytes : List ℕ) → take (at + k - at) (drop at bytes) ≡ take k (drop at bytes)
+part-is at k bytes = ap (λ (n : ℕ). take n (drop at bytes)) (add-sub-cancel-left at k)
+
+pub rewritten-same : (from from′ : ℕ → ℕ) (bytes : List ℕ) → ((t : ℕ) → t < 8 → from t ≡ from′ t) → rewritten from bytes ≡ rewritten from′ bytes
+unfolding rewritten
+rewritten-same from from′ bytes h =
+    ap (λ (xs : List ℕ). headOf bytes ++ xs) (joined-same _ _ 8 (λ t l. ap (massBytes bytes) (h t l)))
+
+module _ (bytes : List ℕ) (size : length bytes ≡ 48) where
+  head-length : length (headOf bytes) ≡ 16
+  head-length = length-take-le 16 bytes (omega arith)
+
+  pub mass-length : (place : ℕ) → place < 8 → length (massBytes bytes place) ≡ 4
+  mass-length place l = length-take-le 4 (drop (16 + 4 * place) bytes) (omega (arith, length-drop (16 + 4 * place) bytes))
+
+  module _ (from : ℕ → ℕ) (near : (t : ℕ) → t < 8 → from t < 8) where
+    each-four : (t : ℕ) → t < 8 → length (massBytes bytes (from t)) ≡ 4
+    each-four t l = mass-length (from t) (near t l)
+
+    pub rewritten-length : length (rewritten from bytes) ≡ 48
+    unfolding rewritten
+    rewritten-length =
+        length-append (headOf bytes) (joined (λ t. massBytes bytes (from t)) 8)
+        ∙ omega (arith, head-length, joined-length (λ t. massBytes bytes (from t)) 4 8 each-four 8 (omega arith))
+
+    pub head-kept : headOf (rewritten from bytes) ≡ headOf bytes
+    unfolding rewritten
+    head-kept = take-at (headOf bytes) (joined (λ t. massBytes bytes (from t)) 8) 16 head-length
+
+    pub mass-moved : (t : ℕ) → t < 8 → massBytes (rewritten from bytes) t ≡ massBytes bytes (from t)
+    unfolding rewritten
+    mass-moved t l =
+        ap (λ (n : ℕ). take 4 (drop (n + 4 * t) (rewritten from bytes))) (sym head-length)
+        ∙ ap (take 4) (drop-append-add (headOf bytes) (joined (λ t. massBytes bytes (from t)) 8) (4 * t))
+        ∙ joined-part (λ t. massBytes bytes (from t)) 4 8 each-four 8 t (omega arith) l
+
+    pub mass-from : (t : ℕ) → t < 8 → massOf (rewritten from bytes) t ≡ massOf bytes (from t)
+    mass-from t l = mass-own (rewritten from bytes) t ∙ ap (λ (own : List ℕ). numberAt 4 own 0) (mass-moved t l) ∙ sym (mass-own bytes (from t))
+
+-- A record of a file has 48 bytes.
+pub whole-record : (file : List ℕ) (q : ℕ) → q < numberOfRecords file → length (recordIn file q) ≡ 48
+whole-record file q l = length-take-le 48 (drop (48 * q) file) (omega (arith, length-drop (48 * q) file))
