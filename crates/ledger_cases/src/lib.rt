@@ -14,9 +14,6 @@ pub const STEP_HEAD: usize = image::BYTES + 2;
 
 pub const RUN_HEAD: usize = image::BYTES + 4;
 
-// The longest output that is lent.
-const LONGEST: usize = 65536;
-
 // The longest text of a listing: 90 bytes for every record that a ledger takes, and for the one that is refused.
 const LONGEST_TEXT: usize = 90 * (Ledger::RECORDS as usize + 1);
 
@@ -29,13 +26,6 @@ pub fn decay(payload: &[u8])
     }
     let entry = decay::entry(payload[0], numbers::read_u16(payload, 1) as u16);
     print::number(entry as u64, b'\n');
-}
-
-// Answers an output of the longest length, filled so that a byte that keeps its value is seen.
-fn output() -> [u8; LONGEST]
-    ensures { λ r. ⌜ 65536 ≡ length r ⌝ }
-{
-    [0xA5; LONGEST]
 }
 
 // Answers the ledger of a payload, whose image stands first.
@@ -75,12 +65,12 @@ pub fn step(payload: &[u8])
     if payload.len() < STEP_HEAD {
         return;
     }
-    let mut out = output();
+    let mut out = print::output();
     let room = numbers::read_u16(payload, image::BYTES) as usize;
     let lent = &mut out[0..room];
     let answer = ledger_of(payload).take(&payload[STEP_HEAD..], lent);
     put_answer(answer);
-    print::bytes(lent);
+    print::bytes(lent, b'\n');
 }
 
 // Prints the numbers of a run's answer with a space after each.
@@ -91,17 +81,6 @@ fn put_outcome(outcome: Outcome) {
     put_ledger(ledger);
 }
 
-// Answers the room that a run asks for, at most the longest.
-fn room_of(asked: u64) -> usize
-    ensures { λ r. ⌜ r ≤ 65536 ⌝ }
-{
-    if asked < LONGEST as u64 {
-        asked as usize
-    } else {
-        LONGEST
-    }
-}
-
 // Prints a whole run, with the room that the case asks for.
 pub fn run(payload: &[u8])
     ensures { λ r. ⌜ r ≡ tt ⌝ }
@@ -109,12 +88,12 @@ pub fn run(payload: &[u8])
     if payload.len() < RUN_HEAD {
         return;
     }
-    let mut out = output();
-    let room = room_of(numbers::read_u32(payload, image::BYTES));
+    let mut out = print::output();
+    let room = print::room_of(numbers::read_u32(payload, image::BYTES));
     let lent = &mut out[0..room];
     let outcome = ledger::run(ledger_of(payload), &payload[RUN_HEAD..], lent);
     put_outcome(outcome);
-    print::bytes(lent);
+    print::bytes(lent, b'\n');
 }
 
 // Answers room for the text of any listing.
@@ -131,5 +110,5 @@ pub fn listing(payload: &[u8])
     let mut text = text();
     let listed = lines::listing(payload, &mut text);
     let length = listed.length;
-    print::bytes(&text[..length]);
+    print::bytes(&text[..length], b'\n');
 }

@@ -1,5 +1,5 @@
 -- Laws of numbers as bytes, over the count of bytes: a wide read is two narrow ones, and what was written is read back.
-use mathlib.Core.Path.{_≡_, refl, ap, _∙_}
+use mathlib.Core.Path.{_≡_, refl, sym, ap, _∙_}
 use mathlib.Core.List.{List, [], _∷_, _++_}
 use Prim.Native.Nat.{ℕ, zero, suc, _+_, _-_, _*_, _/_, _%_, _^_, _≤_, _<_}
 use native.Mathlib.Nat.{zero-add, add-zero, suc-add, pow-zero, pow-suc}
@@ -79,10 +79,28 @@ number-drop (suc k) m j bytes =
     let next : m + j + 1 ≡ m + (j + 1) = omega arith in
     rw (next, number-drop k m (j + 1) bytes, getD-drop m bytes j 0)
 
--- A number within the first bytes is made of them alone; so it is made of its own bytes.
-number-take : (k n at : ℕ) (bytes : List ℕ) → at + k ≤ n → numberAt k (take n bytes) at ≡ numberAt k bytes at
-number-take zero n at bytes h = refl
-number-take (suc k) n at bytes h = rw (getD-take n bytes at 0 (omega arith), number-take k n (at + 1) bytes (omega arith))
+-- Numbers of the same bytes are the same; so a number is that of its own bytes.
+pub number-same : (k : ℕ) (bytes other : List ℕ) (at from : ℕ) → ((i : ℕ) → i < k → getD bytes (at + i) 0 ≡ getD other (from + i) 0)
+    → numberAt k bytes at ≡ numberAt k other from
+number-same zero bytes other at from h = refl
+number-same (suc k) bytes other at from h =
+    let first : getD bytes at 0 ≡ getD other from 0 = rw (add-zero at, add-zero from) at (h 0 (omega arith)) in
+    let next : (i : ℕ) → at + 1 + i ≡ at + suc i = λ i. omega arith in
+    let there : (i : ℕ) → from + 1 + i ≡ from + suc i = λ i. omega arith in
+    rw (first, number-same k bytes other (at + 1) (from + 1) (λ i l. rw (next i, there i) (h (suc i) (omega arith))))
 
 pub number-own : (k at : ℕ) (bytes : List ℕ) → numberAt k bytes at ≡ numberAt k (take k (drop at bytes)) 0
-number-own k at bytes = rw (number-take k k 0 (drop at bytes) (omega arith), ← number-drop k at 0 bytes, add-zero at)
+number-own k at bytes =
+    number-same k bytes (take k (drop at bytes)) at 0
+    (λ i l. let same : 0 + i ≡ i = zero-add i in rw same (sym (getD-take k (drop at bytes) i 0 l ∙ getD-drop at bytes i 0)))
+
+-- Bytes are again those of the number that they make.
+pub bytes-again : (k : ℕ) (bytes : List ℕ) → length bytes ≡ k → ((i : ℕ) → getD bytes i 0 < 256) → bytesOf k (numberAt k bytes 0) ≡ bytes
+bytes-again zero [] size small = refl
+bytes-again zero (b ∷ rest) size small = absurd (omega arith)
+bytes-again (suc k) [] size small = absurd (omega arith)
+bytes-again (suc k) (b ∷ rest) size small =
+    let number : numberAt (suc k) (b ∷ rest) 0 ≡ b + 256 * numberAt k rest 0 = ap (λ (n : ℕ). b + 256 * n) (number-behind k b rest 0) in
+    let low : (b + 256 * numberAt k rest 0) % 256 ≡ b = omega (arith, small 0) in
+    let high : (b + 256 * numberAt k rest 0) / 256 ≡ numberAt k rest 0 = omega (arith, small 0) in
+    rw (number, low, high, bytes-again k rest (omega arith) (λ i. small (suc i)))

@@ -43,6 +43,9 @@ sum-part f j zero h = let e : j ≡ 0 = omega arith in rw e (omega arith)
 sum-part f j (suc k) h =
     ⊎-elim (λ e. rw e (omega arith)) (λ lt. omega (arith, sum-part f j k (le-of-suc-le-suc lt))) (eq-or-lt-of-le h)
 
+pub sum-none : (f : ℕ → ℕ) (k : ℕ) → sumOf f k ≡ 0 → (t : ℕ) → t < k → f t ≡ 0
+sum-none f k e t l = omega (arith, sum-part f (suc t) k l)
+
 -- A sum of sums, and a sum of steps from each number to the next.
 pub sum-plus : (f g : ℕ → ℕ) (k : ℕ) → sumOf (λ t. f t + g t) k ≡ sumOf f k + sumOf g k
 sum-plus f g zero = refl
@@ -51,6 +54,23 @@ sum-plus f g (suc k) = omega (arith, sum-plus f g k)
 pub sum-steps : (f : ℕ → ℕ) (k : ℕ) → ((t : ℕ) → f t ≤ f (t + 1)) → f 0 + sumOf (λ t. f (t + 1) - f t) k ≡ f k
 sum-steps f zero h = omega arith
 sum-steps f (suc k) h = let next = ap f (add-one k) in omega (arith, sum-steps f k h, h k, next)
+
+-- A sum of multiples, one of a single number, and a sum of sums either way round.
+pub sum-times : (f : ℕ → ℕ) (c k : ℕ) → sumOf (λ t. f t * c) k ≡ sumOf f k * c
+sum-times f c zero = omega arith
+sum-times f c (suc k) = omega (arith, sum-times f c k)
+
+pub sum-single : (f : ℕ → ℕ) (k j : ℕ) → j < k → ((t : ℕ) → t < k → (t ≡ j → ⊥) → f t ≡ 0) → sumOf f k ≡ f j
+sum-single f zero j l h = absurd (omega arith)
+sum-single f (suc k) j l h =
+    ⊎-elim
+    (λ e. rw e (omega (arith, sum-each f 0 k (λ t m. h t (omega arith) (λ same. omega arith)))))
+    (λ lt. omega (arith, sum-single f k j lt (λ t m. h t (omega arith)), h k (omega arith) (λ same. omega arith)))
+    (eq-or-lt-of-le (le-of-suc-le-suc l))
+
+pub sum-swap : (f : ℕ → ℕ → ℕ) (k n : ℕ) → sumOf (λ t. sumOf (f t) n) k ≡ sumOf (λ p. sumOf (λ t. f t p) k) n
+sum-swap f zero n = omega (arith, sum-each (λ p. 0) 0 n (λ p l. refl))
+sum-swap f (suc k) n = omega (arith, sum-swap f k n, sum-plus (λ p. sumOf (λ t. f t p) k) (f k) n)
 
 -- f s, f (s + 1), .., k of them
 abbrev run : (ℕ → ℕ) → ℕ → ℕ → List ℕ

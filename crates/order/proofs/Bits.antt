@@ -2,15 +2,15 @@
 use mathlib.Core.Path.{_≡_, refl, sym, ap, ap₂, _∙_}
 use mathlib.Core.Bool.{Bool, true, false, _||_}
 use mathlib.Core.Logic.{⊎-elim}
-use Prim.Native.Nat.{ℕ, zero, suc, _+_, _-_, _*_, _%_, _^_, _≤_, _<_}
-use native.Mathlib.Nat.{add-comm, one-mul, pow-suc, mul-le-mul-right, eq-or-lt-of-le, le-of-suc-le-suc}
+use Prim.Native.Nat.{ℕ, zero, suc, _+_, _-_, _*_, _/_, _%_, _^_, _≤_, _<_}
+use native.Mathlib.Nat.{add-comm, one-mul, pow-suc, mul-le-mul-right, eq-or-lt-of-le, le-of-suc-le-suc, mul-add-div-right}
 use native.Mathlib.Numerals.{add-one}
 use native.Mathlib.Omega.{arith}
 use borrow.Author.Tests.{eq-eqb, ne-eqb}
 use lib.Bits.{bitOr, or-block, or-shifted-r}
 use lib.Count.{ones, ones-cat}
 use lib.Dec.{eqb}
-use lib.Pow.{pow-pos, shl-exact}
+use lib.Pow.{pow-pos, pow-add, shl-exact, high}
 use Rattle.numbers.specs.Eight.{sumOf, everyOf}
 use Rattle.numbers.proofs.Eight.{sum-same, sum-each, sum-most, both-true}
 use Rattle.order.specs.Order.{one, eightBits}
@@ -66,6 +66,10 @@ bits-same f g h = sum-same _ _ 8 (λ k l. ap (λ (b : Bool). one b * 2 ^ k) (h k
 no-bits : (test : ℕ → Bool) (n : ℕ) → ((k : ℕ) → k < n → test k ≡ false) → bitsBelow test n ≡ 0
 no-bits test n h = omega (arith, sum-each (λ k. one (test k) * 2 ^ k) 0 n (λ k l. ap (λ (b : Bool). one b * 2 ^ k) (h k l) ∙ omega arith))
 
+pub no-bits-set : (test : ℕ → Bool) → ((k : ℕ) → k < 8 → test k ≡ false) → eightBits test ≡ 0
+unfolding eightBits
+no-bits-set test h = no-bits test 8 h
+
 one-bit : (j n : ℕ) → j < n → bitsBelow (λ k. eqb (j + 1) (k + 1)) n ≡ 2 ^ j
 one-bit j zero l = absurd (omega arith)
 one-bit j (suc n) l =
@@ -83,8 +87,7 @@ bit-of waste low high =
     ∙ sym (one-bit (waste - 1) 8 (omega arith)) ∙ ap (λ (w : ℕ). bitsBelow (λ k. eqb w (k + 1)) 8) same
 
 pub bit-of-none : (byte : ℕ) → ((k : ℕ) → k < 8 → byte ≡ k + 1 → ⊥) → eightBits (λ k. eqb byte (k + 1)) ≡ 0
-unfolding eightBits
-bit-of-none byte h = no-bits (λ k. eqb byte (k + 1)) 8 (λ k l. ne-eqb byte (k + 1) (h k l))
+bit-of-none byte h = no-bits-set (λ k. eqb byte (k + 1)) (λ k l. ne-eqb byte (k + 1) (h k l))
 
 -- A loop that sets the bits one after another, each or not.
 pub set-next : (test : ℕ → Bool) (t : ℕ) → t < 8 → test t ≡ true → {bits : ℕ} → bits ≡ bitsBelow test t → bitOr bits (1 * 2 ^ t % 2 ^ 8) ≡ bitsBelow test (t + 1)
@@ -112,3 +115,22 @@ each-bit test (suc n) h = by (test n) refl (each-bit test n)
     by : (b : Bool) → test n ≡ b → (bitsBelow test n + 1 ≡ 2 ^ n → everyOf test n ≡ true) → everyOf test (suc n) ≡ true
     by true e below = rw (e, below (omega (arith, rest true e)))
     by false e below = absurd (omega (arith, rest false e, bits-lt test n, pow-pos n))
+
+-- A bit by itself is 1 exactly where the test holds.
+pub bit-is : (test : ℕ → Bool) (n t : ℕ) → t < n → bitsBelow test n / 2 ^ t % 2 ≡ one (test t)
+bit-is test zero t l = absurd (omega arith)
+bit-is test (suc n) t l =
+    ⊎-elim
+    (λ e. rw e (ap (λ (x : ℕ). x / 2 ^ n % 2) (high-first test n) ∙ ap (λ (x : ℕ). x % 2) (high (one (test n)) n (bits-lt test n)) ∙ omega (arith, one-most (test n))))
+    (λ lt. below lt (bit-is test n t lt))
+    (eq-or-lt-of-le (le-of-suc-le-suc l))
+  where
+    -- the highest bit is so many times twice the power of a lower one
+    below : t < n → bitsBelow test n / 2 ^ t % 2 ≡ one (test t) → bitsBelow test (suc n) / 2 ^ t % 2 ≡ one (test t)
+    below lt rest =
+        let up : n ≡ n - t - 1 + 1 + t = omega arith in
+        let twice : 2 ^ (n - t - 1 + 1) ≡ 2 ^ (n - t - 1) * 2 = rw (add-one (n - t - 1)) (pow-suc 2 (n - t - 1)) in
+        let split : one (test n) * 2 ^ n ≡ one (test n) * 2 ^ (n - t - 1) * 2 * 2 ^ t =
+        ap (λ (k : ℕ). one (test n) * 2 ^ k) up ∙ ap (λ (x : ℕ). one (test n) * x) (pow-add 2 (n - t - 1 + 1) t ∙ ap (λ (x : ℕ). x * 2 ^ t) twice) ∙ omega arith in
+        ap (λ (x : ℕ). x / 2 ^ t % 2) (high-first test n ∙ ap (λ (x : ℕ). x + bitsBelow test n) split)
+        ∙ ap (λ (x : ℕ). x % 2) (mul-add-div-right (pow-pos t) (one (test n) * 2 ^ (n - t - 1) * 2) (bitsBelow test n)) ∙ omega (arith, rest)

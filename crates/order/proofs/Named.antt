@@ -4,8 +4,8 @@ use mathlib.Core.Path.{_≡_, refl, sym, ap, _∙_}
 use mathlib.Core.Bool.{Bool, true, false, true≢false, cond, _||_}
 use mathlib.Core.List.{List, [], _∷_, _++_}
 use mathlib.Core.Logic.{⊎-elim}
-use Prim.Native.Nat.{ℕ, zero, suc, _+_, _-_, _≤_, _<_}
-use native.Mathlib.Nat.{eq-or-lt-of-le, le-of-suc-le-suc, eq-zero-or-pos}
+use Prim.Native.Nat.{ℕ, zero, suc, _+_, _-_, _*_, _≤_, _<_}
+use native.Mathlib.Nat.{eq-or-lt-of-le, le-of-suc-le-suc, eq-zero-or-pos, zero-mul, one-mul}
 use native.Mathlib.Decide.{ℕ-discrete}
 use native.Mathlib.Numerals.{add-one}
 use native.Mathlib.Omega.{arith}
@@ -16,7 +16,7 @@ use lib.ListN.{length, getD, take}
 use lib.Seq.{take-suc, ext-getD}
 use Rattle.numbers.specs.Eight.{eight, sumOf, everyOf}
 use Rattle.numbers.specs.Lists.{added}
-use Rattle.numbers.proofs.Eight.{eight-at, sum-each, sum-at-most, sum-plus, both-true, every-at, every-each}
+use Rattle.numbers.proofs.Eight.{eight-at, sum-same, sum-each, sum-at-most, sum-plus, sum-times, sum-single, sum-swap, both-true, every-at, every-each}
 use Rattle.numbers.proofs.Lists.{added-more}
 use Rattle.order.specs.Order.{one, eightBits, timesNamed, isOrder, typesSeen, placeOf}
 use Rattle.order.proofs.Bits.{one-most, or-bits, bits-same, all-bits, each-bit}
@@ -128,7 +128,7 @@ found (byte ∷ rest) waste h = by (eqb byte waste) refl h (found rest waste)
     by true e h later = (omega arith, eqb-true byte waste e)
     by false e h later = let p = later (omega arith) in (omega arith, p .1)
 
-named-at : (order : List ℕ) (p : ℕ) → p < length order → 0 < timesNamed order (getD order p 0)
+pub named-at : (order : List ℕ) (p : ℕ) → p < length order → 0 < timesNamed order (getD order p 0)
 unfolding timesNamed
 named-at [] p l = absurd (omega arith)
 named-at (byte ∷ rest) zero l = omega (arith, ap one (eq-eqb byte byte refl))
@@ -148,12 +148,19 @@ module _ (order : List ℕ) (ok : isOrder order ≡ true) where
   pub place-lt : (t : ℕ) → t < 8 → placeOf order (t + 1) < 8
   place-lt t l = omega (arith, found order (t + 1) (omega (arith, named-once order ok t l)) .0, eight-bytes order ok)
 
+  pub at-place : (t : ℕ) → t < 8 → getD order (placeOf order (t + 1)) 0 ≡ t + 1
+  at-place t l = found order (t + 1) (omega (arith, named-once order ok t l)) .1
+
+  one-hit : (p : ℕ) → p < 8 → hits 8 (getD order p 0) ≡ 1
+  one-hit p l =
+      let size = eight-bytes order ok in
+      let all : 8 ≤ added (hits 8) order = omega (arith, by-byte 8 order, sum-each (λ k. timesNamed order (k + 1)) 1 8 (named-once order ok)) in
+      each-one (hits 8) (hits-most 8) order (omega (arith, all)) p (omega arith)
+
   -- each place has a type, and the type is found there
   pub type-at : (p : ℕ) → p < 8 → (0 < getD order p 0) × (getD order p 0 ≤ 8)
   type-at p l =
-      let size = eight-bytes order ok in
-      let all : 8 ≤ added (hits 8) order = omega (arith, by-byte 8 order, sum-each (λ k. timesNamed order (k + 1)) 1 8 (named-once order ok)) in
-      let hit = each-one (hits 8) (hits-most 8) order (omega (arith, all)) p (omega arith) in
+      let hit = one-hit p l in
       let no : ((k : ℕ) → k < 8 → getD order p 0 ≡ k + 1 → ⊥) → ⊥ = λ h. omega (arith, no-hit 8 (getD order p 0) h) in (
         ⊎-elim (λ e. absurd (no (λ k m e′. omega arith))) (λ some. some) (eq-zero-or-pos (getD order p 0)),
         ⊎-elim (λ e. omega arith) (λ over. absurd (no (λ k m e′. omega arith))) (eq-zero-or-pos (getD order p 0 - 8)),
@@ -175,6 +182,17 @@ module _ (order : List ℕ) (ok : isOrder order ≡ true) where
   places-are places size each =
       ext-getD 0 places (eight (λ t. placeOf order (t + 1))) size
       (λ t l. let m : t < 8 = omega (arith, size) in
-      let there = found order (t + 1) (omega (arith, named-once order ok t m)) in
-      let back : getD order (placeOf order (t + 1)) 0 - 1 ≡ t = omega (arith, there .1) in
+      let back : getD order (placeOf order (t + 1)) 0 - 1 ≡ t = omega (arith, at-place t m) in
       sym (ap (λ (u : ℕ). getD places u 0) back) ∙ each (placeOf order (t + 1)) (place-lt t m) ∙ sym (eight-at (λ t. placeOf order (t + 1)) t m))
+
+  -- A sum over the places of the types is one over all places.
+  pub sum-by-order : (g : ℕ → ℕ) → sumOf (λ t. g (placeOf order (t + 1))) 8 ≡ sumOf g 8
+  sum-by-order g =
+      let term : ℕ → ℕ → ℕ = λ t p. one (eqb (getD order p 0) (t + 1)) * g p in
+      sum-same (λ t. g (placeOf order (t + 1))) (λ t. sumOf (term t) 8) 8
+      (λ t l. sym (sum-single (term t) 8 (placeOf order (t + 1)) (place-lt t l)
+      (λ p m differ. ap (λ (b : Bool). one b * g p) (ne-eqb (getD order p 0) (t + 1) (λ e. differ (sym (place-back p m) ∙ ap (placeOf order) e))) ∙ zero-mul (g p))
+      ∙ ap (λ (b : Bool). one b * g (placeOf order (t + 1))) (eq-eqb _ (t + 1) (at-place t l)) ∙ one-mul (g (placeOf order (t + 1)))))
+      ∙ sum-swap term 8 8
+      ∙ sum-same (λ p. sumOf (λ t. term t p) 8) g 8
+      (λ p l. sum-times (λ t. one (eqb (getD order p 0) (t + 1))) (g p) 8 ∙ ap (λ (n : ℕ). n * g p) (one-hit p l) ∙ one-mul (g p))

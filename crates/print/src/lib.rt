@@ -1,8 +1,14 @@
-// Words of plain text on standard output, for a program whose lines are compared: numbers, the bits of floats, and bytes.
-// A write that fails is passed over. What stands on standard output no contract can say: each answers nothing.
+// Words of plain text on standard output, for a program whose lines are compared: numbers, the bits of floats, and bytes; and the
+// buffers that its cases lend, so that what a call leaves in them can be seen.
+// A write that fails is passed over. What stands on standard output no contract can say: each that prints answers nothing.
 ghost use mathlib.Core.Path.{_≡_};
 ghost use Prim.Native.Nat.{_<_};
 use libc::STDOUT_FILENO;
+
+mod lent;
+
+pub use lent::output;
+pub use lent::room_of;
 
 // The bytes of a page, on which long words are gathered.
 const PAGE: usize = 4096;
@@ -99,8 +105,8 @@ fn flush(page: &[u8], at: usize) {
     }
 }
 
-// Prints bytes as hex, or a dash where there are none, and ends the line.
-pub fn bytes(of: &[u8])
+// Prints bytes as hex, or a dash where there are none, and the byte that follows them.
+pub fn bytes(of: &[u8], follows: u8)
     ensures { λ r. ⌜ r ≡ tt ⌝ }
 {
     if of.len() == 0 {
@@ -109,5 +115,5 @@ pub fn bytes(of: &[u8])
     let mut page = [0u8; PAGE];
     let at = put_all(&mut page, of);
     flush(&page, at);
-    end(b'\n');
+    end(follows);
 }

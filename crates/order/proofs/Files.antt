@@ -1,0 +1,123 @@
+-- Laws of a file: record by record it is the old one rewritten; and it is the old file exactly where no mass is another.
+use mathlib.Core.Path.{_≡_, refl, sym, ap, ap₂, _∙_}
+use mathlib.Core.Bool.{Bool, true, false, true≢false, not}
+use mathlib.Core.List.{List, [], _∷_, _++_}
+use Prim.Native.Nat.{ℕ, zero, suc, _+_, _*_, _/_, _%_, _≤_, _<_}
+use native.Mathlib.Omega.{arith}
+use borrow.Author.Tests.{eq-eqb, eqb-true}
+use lib.Dec.{eqb}
+use lib.ListN.{length, getD, take, drop, replicate, length-drop, take-append-drop}
+use lib.Seq.{take-all, take-length, drop-drop, getD-take, getD-drop, length-take-le}
+use Rattle.numbers.specs.Bytes.{numberAt, bytesOf}
+use Rattle.numbers.specs.Eight.{sumOf}
+use Rattle.numbers.specs.Lists.{joined}
+use Rattle.numbers.proofs.Bytes.{bytes-again}
+use Rattle.numbers.proofs.Eight.{sum-each, sum-none}
+use Rattle.numbers.proofs.Joined.{joined-same, joined-part, joined-parts}
+use Rattle.record.specs.Fields.{massOf}
+use Rattle.order.specs.Order.{one, eightBits, isOrder, placeOf}
+use Rattle.order.specs.Repair.{headOf, massBytes, rewritten, isOther, recordIn, numberOfRecords, stoodAt, newFile, reportOf, bitsSet}
+use Rattle.order.proofs.Bits.{no-bits-set}
+use Rattle.order.proofs.Named.{place-lt}
+use Rattle.order.proofs.Records.{mass-own, mass-length, rewritten-length, head-kept, mass-moved, whole-record}
+
+-- A record is its head and its eight masses.
+pub record-again : (bytes : List ℕ) → length bytes ≡ 48 → headOf bytes ++ joined (massBytes bytes) 8 ≡ bytes
+record-again bytes size =
+    let masses : joined (massBytes bytes) 8 ≡ drop 16 bytes =
+    joined-same (massBytes bytes) (λ t. take 4 (drop (4 * t) (drop 16 bytes))) 8 (λ t l. ap (take 4) (sym (drop-drop (4 * t) 16 bytes)))
+    ∙ joined-parts 4 (drop 16 bytes) 8 ∙ take-all 32 (drop 16 bytes) (omega (arith, length-drop 16 bytes))
+    in
+    ap (λ (xs : List ℕ). headOf bytes ++ xs) masses ∙ take-append-drop 16 bytes
+
+-- A record whose masses all come from their own places is the old one.
+pub record-kept : (from : ℕ → ℕ) (bytes : List ℕ) → length bytes ≡ 48 → ((t : ℕ) → t < 8 → massBytes bytes (from t) ≡ massBytes bytes t) → rewritten from bytes ≡ bytes
+unfolding rewritten
+record-kept from bytes size h = ap (λ (xs : List ℕ). headOf bytes ++ xs) (joined-same _ _ 8 h) ∙ record-again bytes size
+
+-- A file of whole records is its records.
+pub file-again : (file : List ℕ) → length file % 48 ≡ 0 → joined (recordIn file) (numberOfRecords file) ≡ file
+file-again file whole =
+    let all : 48 * numberOfRecords file ≡ length file = omega arith in
+    joined-parts 48 file (numberOfRecords file) ∙ rw all (take-length file)
+
+module _ (order file : List ℕ) (ok : isOrder order ≡ true) where
+  pub new-record : (q : ℕ) → q < numberOfRecords file → recordIn (newFile order file) q ≡ rewritten (stoodAt order) (recordIn file q)
+  unfolding newFile
+  new-record q l =
+      joined-part (λ q. rewritten (stoodAt order) (recordIn file q)) 48 (numberOfRecords file)
+      (λ q l. rewritten-length (recordIn file q) (whole-record file q l) (stoodAt order) (place-lt order ok)) (numberOfRecords file) q (omega arith) l
+
+  module _ (whole : length file % 48 ≡ 0) where
+    -- Where each record is the old one, so is the file; nothing is then reported.
+    pub file-kept : ((q : ℕ) → q < numberOfRecords file → rewritten (stoodAt order) (recordIn file q) ≡ recordIn file q) → newFile order file ≡ file
+    unfolding newFile
+    file-kept h = joined-same _ _ (numberOfRecords file) h ∙ file-again file whole
+
+    module _ (same : newFile order file ≡ file) where
+      same-record : (q : ℕ) → q < numberOfRecords file → rewritten (stoodAt order) (recordIn file q) ≡ recordIn file q
+      same-record q l = sym (new-record q l) ∙ ap (λ (xs : List ℕ). recordIn xs q) same
+
+      no-other : (q : ℕ) → q < numberOfRecords file → (t : ℕ) → isOther (stoodAt order) (recordIn file q) t ≡ false
+      no-other q l t = ap not (eq-eqb _ _ (ap (λ (bytes : List ℕ). massOf bytes t) (same-record q l)))
+
+      pub nothing-counted : bitsSet order file ≡ 0
+      unfolding bitsSet
+      nothing-counted =
+          omega (
+            arith,
+            sum-each (λ q. sumOf (λ t. one (isOther (stoodAt order) (recordIn file q) t)) 8) 0 (numberOfRecords file)
+                (λ q l. sum-each (λ t. one (isOther (stoodAt order) (recordIn file q) t)) 0 8 (λ t m. ap one (no-other q l t))),
+          )
+
+      pub nothing-reported : reportOf order file ≡ replicate (numberOfRecords file) 0
+      unfolding reportOf
+      nothing-reported =
+          joined-same _ (λ q. 0 ∷ []) (numberOfRecords file) (λ q l. ap (λ (byte : ℕ). byte ∷ []) (no-bits-set _ (λ t m. no-other q l t)))
+          ∙ zeros (numberOfRecords file)
+        where
+          one-more : (n : ℕ) → replicate {A = ℕ} n 0 ++ (0 ∷ []) ≡ 0 ∷ replicate n 0
+          one-more zero = refl
+          one-more (suc n) = ap (λ (xs : List ℕ). 0 ∷ xs) (one-more n)
+
+          zeros : (n : ℕ) → joined {A = ℕ} (λ q. 0 ∷ []) n ≡ replicate n 0
+          zeros zero = refl
+          zeros (suc n) = ap (λ (xs : List ℕ). xs ++ (0 ∷ [])) (zeros n) ∙ one-more n
+
+    -- Where nothing is counted in a file of bytes, each mass is the old one, and so is the file.
+    module _ (bytes : (i : ℕ) → getD file i 0 < 256) (none : bitsSet order file ≡ 0) where
+      equal : (q : ℕ) → q < numberOfRecords file → (t : ℕ) → t < 8 → massOf (rewritten (stoodAt order) (recordIn file q)) t ≡ massOf (recordIn file q) t
+      unfolding bitsSet
+      equal q l t m = by (eqb (massOf (rewritten (stoodAt order) (recordIn file q)) t) (massOf (recordIn file q) t)) refl
+          (sum-none (λ t. one (isOther (stoodAt order) (recordIn file q) t)) 8
+          (sum-none (λ q. sumOf (λ t. one (isOther (stoodAt order) (recordIn file q) t)) 8) (numberOfRecords file) none q l) t m)
+        where
+          by : (b : Bool) → eqb (massOf (rewritten (stoodAt order) (recordIn file q)) t) (massOf (recordIn file q) t) ≡ b → one (not b) ≡ 0
+              → massOf (rewritten (stoodAt order) (recordIn file q)) t ≡ massOf (recordIn file q) t
+          by true e z = eqb-true _ _ e
+          by false e z = absurd (omega arith)
+
+      small : (q place : ℕ) (i : ℕ) → getD (massBytes (recordIn file q) place) i 0 < 256
+      small q place i =
+          part 4 (drop (16 + 4 * place) (recordIn file q))
+          (λ j. rw (getD-drop (16 + 4 * place) (recordIn file q) j 0) (part 48 (drop (48 * q) file) (λ k. rw (getD-drop (48 * q) file k 0) (bytes (48 * q + k))) (16 + 4 * place + j))) i
+        where
+          part : (n : ℕ) (xs : List ℕ) → ((j : ℕ) → getD xs j 0 < 256) → (i : ℕ) → getD (take n xs) i 0 < 256
+          part zero xs h i = omega arith
+          part (suc n) [] h i = omega arith
+          part (suc n) (x ∷ xs) h zero = h 0
+          part (suc n) (x ∷ xs) h (suc i) = part n xs (λ j. h (suc j)) i
+
+      -- a mass of as many kilograms has the same bytes
+      same-bytes : (q : ℕ) → q < numberOfRecords file → (t : ℕ) → t < 8 → massBytes (recordIn file q) (stoodAt order t) ≡ massBytes (recordIn file q) t
+      same-bytes q l t m =
+          let record48 = whole-record file q l in
+          let number : (place : ℕ) → place < 8 → bytesOf 4 (massOf (recordIn file q) place) ≡ massBytes (recordIn file q) place =
+          λ place k. ap (bytesOf 4) (mass-own (recordIn file q) place) ∙ bytes-again 4 (massBytes (recordIn file q) place) (mass-length (recordIn file q) record48 place k) (small q place)
+          in
+          let from = mass-own (rewritten (stoodAt order) (recordIn file q)) t ∙ ap (λ (own : List ℕ). numberAt 4 own 0) (mass-moved (recordIn file q) record48 (stoodAt order) (place-lt order ok) t m)
+          ∙ sym (mass-own (recordIn file q) (stoodAt order t)) in
+          sym (number (stoodAt order t) (place-lt order ok t m)) ∙ ap (bytesOf 4) (sym from ∙ equal q l t m) ∙ number t m
+
+      pub file-same : newFile order file ≡ file
+      file-same = file-kept (λ q l. record-kept (stoodAt order) (recordIn file q) (whole-record file q l) (same-bytes q l))
