@@ -110,20 +110,36 @@ module _ (order file : List ℕ) where
         no-room e = refused 21 (simp (ok, eq-eqb (length file % 48) 0 whole, e))
 
         module _ (room : (ltb (length out) (length file) || ltb (length report) (numberOfRecords file)) ≡ false) where
-          pub none-refused : repairRefusal order file out report ≡ 0
+          none-refused : repairRefusal order file out report ≡ 0
           unfolding repairFaults
           none-refused = simp (ok, eq-eqb (length file % 48) 0 whole, room)
+
+          pub refusal-is : repairedOf order file out report .refusal ≡ 0
+          unfolding repairedOf
+          refusal-is = none-refused
+
+          pub changed-is : repairedOf order file out report .changed ≡ bitsSet order file
+          unfolding repairedOf
+          changed-is = simp none-refused
+
+          pub out-is : outLeft order file out report ≡ newFile order file ++ drop (length file) out
+          unfolding outLeft
+          out-is = simp none-refused
+
+          pub report-is : reportLeft order file out report ≡ reportOf order file ++ drop (numberOfRecords file) report
+          unfolding reportLeft
+          report-is = simp none-refused
 
           pub accepted : (places : List ℕ) → places ≡ eight (stoodAt order) → {changed : ℕ} {out′ report′ : List ℕ}
               → changed ≡ bitsBy places → out′ ≡ sets out 0 (fileBy places) → report′ ≡ sets report 0 (reportBy places)
               → Ends (record { refusal = 0; changed = changed }) out′ report′
-          unfolding repairedOf outLeft reportLeft
+          unfolding repairedOf
           accepted places e n p q =
               let fits = rooms file out report room in
               let long : length (newFile order file) ≡ length file = omega (arith, new-length ok, whole) in (
                 simp (none-refused, n, all-bits-set places e),
                 (
-                  p ∙ ap (sets out 0) (new-file places e) ∙ front (newFile order file) out (length file) long (fits .0) ∙ simp none-refused,
-                  q ∙ ap (sets report 0) (new-report places e) ∙ front (reportOf order file) report (numberOfRecords file) report-length (fits .1) ∙ simp none-refused,
+                  p ∙ ap (sets out 0) (new-file places e) ∙ front (newFile order file) out (length file) long (fits .0) ∙ sym out-is,
+                  q ∙ ap (sets report 0) (new-report places e) ∙ front (reportOf order file) report (numberOfRecords file) report-length (fits .1) ∙ sym report-is,
                 ),
               )

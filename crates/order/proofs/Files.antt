@@ -2,7 +2,7 @@
 use mathlib.Core.Path.{_≡_, refl, sym, ap, ap₂, _∙_}
 use mathlib.Core.Bool.{Bool, true, false, true≢false, not}
 use mathlib.Core.List.{List, [], _∷_, _++_}
-use Prim.Native.Nat.{ℕ, zero, suc, _+_, _*_, _/_, _%_, _≤_, _<_}
+use Prim.Native.Nat.{ℕ, zero, suc, _+_, _-_, _*_, _/_, _%_, _≤_, _<_}
 use native.Mathlib.Omega.{arith}
 use borrow.Author.Tests.{eq-eqb, eqb-true}
 use lib.Dec.{eqb}
@@ -18,7 +18,7 @@ use Rattle.record.specs.Fields.{massOf}
 use Rattle.order.specs.Order.{one, eightBits, isOrder, placeOf}
 use Rattle.order.specs.Repair.{headOf, massBytes, rewritten, isOther, recordIn, numberOfRecords, stoodAt, newFile, reportOf, bitsSet}
 use Rattle.order.proofs.Bits.{no-bits-set}
-use Rattle.order.proofs.Named.{place-lt}
+use Rattle.order.proofs.Named.{place-lt, type-at, place-back}
 use Rattle.order.proofs.Records.{mass-own, mass-length, rewritten-length, head-kept, mass-moved, whole-record}
 
 -- A record is its head and its eight masses.
@@ -41,12 +41,50 @@ file-again file whole =
     let all : 48 * numberOfRecords file ≡ length file = omega arith in
     joined-parts 48 file (numberOfRecords file) ∙ rw all (take-length file)
 
+-- The bytes of a file by record, and of a record by mass.
+pub in-record : (file : List ℕ) (q i : ℕ) → i < 48 → getD (recordIn file q) i 0 ≡ getD file (48 * q + i) 0
+in-record file q i l = getD-take 48 (drop (48 * q) file) i 0 l ∙ getD-drop (48 * q) file i 0
+
+in-mass : (bytes : List ℕ) (place b : ℕ) → b < 4 → getD (massBytes bytes place) b 0 ≡ getD bytes (16 + 4 * place + b) 0
+in-mass bytes place b l = getD-take 4 (drop (16 + 4 * place) bytes) b 0 l ∙ getD-drop (16 + 4 * place) bytes b 0
+
+pub report-at : (order file : List ℕ) (q : ℕ) → q < numberOfRecords file → getD (reportOf order file) q 0 ≡ eightBits (isOther (stoodAt order) (recordIn file q))
+unfolding reportOf
+report-at order file q l =
+    let byte : ℕ → List ℕ = λ q. eightBits (isOther (stoodAt order) (recordIn file q)) ∷ [] in
+    let all : List ℕ = joined byte (numberOfRecords file) in
+    let place : 1 * q + 0 ≡ q = omega arith in
+    sym (rw place at (getD-drop (1 * q) all 0 0)) ∙ sym (getD-take 1 (drop (1 * q) all) 0 0 (omega arith))
+    ∙ ap (λ (xs : List ℕ). getD xs 0 0) (joined-part byte 1 (numberOfRecords file) (λ q l. refl) (numberOfRecords file) q (omega arith) l)
+
 module _ (order file : List ℕ) (ok : isOrder order ≡ true) where
   pub new-record : (q : ℕ) → q < numberOfRecords file → recordIn (newFile order file) q ≡ rewritten (stoodAt order) (recordIn file q)
   unfolding newFile
   new-record q l =
       joined-part (λ q. rewritten (stoodAt order) (recordIn file q)) 48 (numberOfRecords file)
       (λ q l. rewritten-length (recordIn file q) (whole-record file q l) (stoodAt order) (place-lt order ok)) (numberOfRecords file) q (omega arith) l
+
+  pub head-byte : (q i : ℕ) → q < numberOfRecords file → i < 16 → getD (newFile order file) (48 * q + i) 0 ≡ getD file (48 * q + i) 0
+  head-byte q i l m =
+      let bytes : List ℕ = recordIn file q in
+      let new : List ℕ = rewritten (stoodAt order) bytes in
+      sym (in-record (newFile order file) q i (omega arith)) ∙ ap (λ (xs : List ℕ). getD xs i 0) (new-record q l)
+      ∙ sym (getD-take 16 new i 0 m) ∙ ap (λ (xs : List ℕ). getD xs i 0) (head-kept bytes (whole-record file q l) (stoodAt order) (place-lt order ok))
+      ∙ getD-take 16 bytes i 0 m ∙ in-record file q i (omega arith)
+
+  pub mass-byte : (q p b : ℕ) → q < numberOfRecords file → p < 8 → b < 4
+      → getD (newFile order file) (48 * q + (16 + 4 * (getD order p 0 - 1) + b)) 0 ≡ getD file (48 * q + (16 + 4 * p + b)) 0
+  mass-byte q p b l m k =
+      let bytes : List ℕ = recordIn file q in
+      let new : List ℕ = rewritten (stoodAt order) bytes in
+      let type = type-at order ok p m in
+      let t : ℕ = getD order p 0 - 1 in
+      let up : getD order p 0 - 1 + 1 ≡ getD order p 0 = omega (arith, type .0) in
+      let stood : stoodAt order (getD order p 0 - 1) ≡ p = rw up (place-back order ok p m) in
+      sym (in-record (newFile order file) q (16 + 4 * t + b) (omega (arith, type .1))) ∙ ap (λ (xs : List ℕ). getD xs (16 + 4 * t + b) 0) (new-record q l)
+      ∙ sym (in-mass new t b k)
+      ∙ ap (λ (xs : List ℕ). getD xs b 0) (mass-moved bytes (whole-record file q l) (stoodAt order) (place-lt order ok) t (omega (arith, type .0, type .1)) ∙ ap (massBytes bytes) stood)
+      ∙ in-mass bytes p b k ∙ in-record file q (16 + 4 * p + b) (omega arith)
 
   module _ (whole : length file % 48 ≡ 0) where
     -- Where each record is the old one, so is the file; nothing is then reported.

@@ -14,5 +14,7 @@ pub mod Months
 pub mod Equation
 pub mod Uncertainties
 pub mod Sludge
+pub mod Shuffled
+pub mod Righted
 pub mod Proved
 pub mod OneAnswer

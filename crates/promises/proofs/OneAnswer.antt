@@ -16,6 +16,7 @@ pub mod Door
 pub mod Chart
 pub mod Samples
 pub mod Uncertainty
+pub mod Order
 pub mod Line
 pub mod Lines
 pub mod Calls

@@ -37,6 +37,8 @@ use Rattle.promises.proofs.Worked.{worked}
 use Rattle.promises.proofs.Sorting.{sorted-where, sorted-well, sorted-light}
 use Rattle.promises.proofs.Equation.{phi-is, V-is}
 use Rattle.promises.proofs.Uncertainties.{factor-where, factor-well, factor-one, factor-18, codes-where, codes-18, codes-19, codes-table, codes-chosen, codes-well, factor-falls, codes-fall, factor-86}
+use Rattle.promises.proofs.Shuffled.{when-passed, repair-where, repair-20, repair-21, repair-22, types-seen}
+use Rattle.promises.proofs.Righted.{put-right, brought-back, has-inverse, in-order, none-changed}
 use Rattle.promises.proofs.Sludge.{default-kept, domestic-measured, industrial-measured, over-100, dry-unseen, dry-free, sound-by, still-sound}
 use Rattle.promises.proofs.Months.{months-share, only-17, always-17, year-kept}
 
@@ -163,4 +165,14 @@ promises =
       dry-free = λ l one other room alike. dry-free one other alike l room;
       sound-by = sound-by;
       still-sound = still-sound;
+      repair-where = repair-where;
+      repair-20 = repair-20;
+      repair-21 = repair-21;
+      repair-22 = repair-22;
+      types-seen = types-seen;
+      repair-well = λ s z. put-right s (when-passed s z);
+      repair-undone = λ s back out report z inverse room. brought-back s back out report (when-passed s z) inverse room;
+      has-inverse = has-inverse;
+      in-order = λ s e z. in-order s (when-passed s z) e;
+      none-changed = λ s z bytes. none-changed s (when-passed s z) bytes;
     }

@@ -6,4 +6,5 @@ pub mod Worked
 pub mod Sorting
 pub mod Uncertainties
 pub mod Sludge
+pub mod Shuffled
 pub mod Promises

@@ -3,11 +3,11 @@
 use mathlib.Core.Path.{_≡_}
 use mathlib.Core.Bool.{true, false}
 use mathlib.Core.Logic.{_↔_}
-use mathlib.Core.List.{List, map}
+use mathlib.Core.List.{List, [], _∷_, map}
 use Prim.Native.Nat.{ℕ, _+_, _-_, _*_, _/_, _%_, _^_, _≤_, _<_}
 use native.Mathlib.Omega.{arith}
 use lib.Dec.{lit<}
-use lib.ListN.{length, getD}
+use lib.ListN.{length, getD, take}
 use Rattle.numbers.specs.Eight.{eight, sumOf, allOf}
 use Rattle.numbers.specs.Fault.{firstOf, ahead}
 use Rattle.numbers.specs.Fraction.{Fraction, over, whole, _⊕_, _⊗_, _≼_, _≺_, _≈_}
@@ -28,6 +28,7 @@ use Rattle.ledger.specs.declared.answer.Outcome.{Outcome}
 use Rattle.samples.specs.Samples.{fractionAt, numberOf, sortedOf}
 use Rattle.uncertainty.specs.Uncertainty.{entering, AtMost, squaresOf, chosenBy, byPercentages, byCodes}
 use Rattle.uncertainty.specs.declared.Uncertainties.{Uncertainties}
+use Rattle.order.specs.Order.{typesSeen}
 use Rattle.image.specs.Image.{imageBytes}
 use Rattle.line.specs.Line.{acceptedText}
 use Rattle.lines.specs.Listing.{answerText, runText, listingOf}
@@ -38,6 +39,7 @@ use Rattle.promises.specs.WholeRun.{runOver, WholeRun}
 use Rattle.promises.specs.Site.{Call, KeptSite}
 use Rattle.promises.specs.Sorting.{meanShare, Sortable}
 use Rattle.promises.specs.Sludge.{mOf, industrialPercent, domesticPercent, hundredths, defaults, highest, depositBy, soundBy, Dry, AlikeButDry}
+use Rattle.promises.specs.Shuffled.{Shuffled, righted, NamesEach, Whole, Room, PutRight, untouched, copied, Inverse, again, BroughtBack}
 use Rattle.promises.specs.Uncertainties.{V², v, φ, EquationFour, Entered, ByTable, Coded, Determined}
 use Rattle.promises.specs.Worked.{rows, holds}
 
@@ -216,3 +218,22 @@ pub record Promises : Type 0 where
   -- 'and 3 uses DOC 5000 and 2571 for types 7 and 8 in its ceiling on T'; what was sound by document 01's DOC still is.
   pub sound-by : (l : Ledger) → sound l ≡ soundBy highest l
   pub still-sound : (l : Ledger) → soundBy defaults l ≡ true → sound l ≡ true
+  -- Document 02, request g: a file is put right exactly where 'each of the types 1 to 8 [is] named once', it is whole records and both buffers
+  -- have room; 'Refusals: 20 [..], 21 [..], 22 [..], in that order, with nothing written and answer 0'.
+  pub repair-where : (s : Shuffled) → (righted s .refusal ≡ 0) ↔ (NamesEach (s .order) × Whole s × Room s)
+  pub repair-20 : (s : Shuffled) → (righted s ≡ untouched 20 s) ↔ (NamesEach (s .order) → ⊥)
+  pub repair-21 : (s : Shuffled) → (righted s ≡ untouched 21 s) ↔ (NamesEach (s .order) × (Whole s → ⊥))
+  pub repair-22 : (s : Shuffled) → (righted s ≡ untouched 22 s) ↔ (NamesEach (s .order) × Whole s × (Room s → ⊥))
+  -- 'eight-bit set of types seen, [..] full exactly when the order is a permutation'
+  pub types-seen : (order : List ℕ) → length order ≡ 8 → (typesSeen order ≡ 255) ↔ NamesEach order
+  -- 'rewrite a file of records into a second buffer with every mass at its type's place', and so on.
+  pub repair-well : (s : Shuffled) → righted s .refusal ≡ 0 → PutRight s (righted s)
+  -- 'Repairing with the inverse order brings back the old file exactly', into any buffers with room; and each order has an inverse.
+  pub repair-undone : (s : Shuffled) (back out report : List ℕ) → righted s .refusal ≡ 0 → Inverse (s .order) back
+      → Room (again s back out report) → BroughtBack s (righted (again s back out report))
+  pub has-inverse : (order : List ℕ) → NamesEach order → (back : List ℕ) × Inverse order back
+  -- The order 1 2 3 4 5 6 7 8 copies the file and reports nothing.
+  pub in-order : (s : Shuffled) → s .order ≡ 1 ∷ 2 ∷ 3 ∷ 4 ∷ 5 ∷ 6 ∷ 7 ∷ 8 ∷ [] → righted s .refusal ≡ 0 → righted s ≡ copied s
+  -- The answer is 0 exactly where the new file is the old one; a file is bytes.
+  pub none-changed : (s : Shuffled) → righted s .refusal ≡ 0 → ((i : ℕ) → getD (s .file) i 0 < 256)
+      → (righted s .changed ≡ 0) ↔ (take (length (s .file)) (righted s .out) ≡ s .file)

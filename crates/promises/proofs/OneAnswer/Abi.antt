@@ -9,6 +9,7 @@ use Rattle.abi.proofs.landfill_cell.Reads as cell
 use Rattle.abi.proofs.landfill_masses.Reads as masses
 use Rattle.abi.proofs.landfill_factor.Reads as factor
 use Rattle.abi.proofs.landfill_factor_by_codes.Reads as factor-by-codes
+use Rattle.abi.proofs.landfill_repair.Reads as repair
 use Rattle.abi.proofs.landfill_point.Reads as point
 use Rattle.abi.proofs.landfill_listing.Reads as listing
 use Rattle.promises.proofs.OneAnswer.{OneAnswer, Settled, by-equation, _&_, both}
@@ -39,6 +40,9 @@ landfill-factor-one = by-equation (λ κs a r s p. both (p .0) (p .1))
 
 pub landfill-factor-by-codes-one : Settled factor-by-codes.Learnt (λ κs r s. r & now (s .1 .1 .1 .1 .1 .1 .0))
 landfill-factor-by-codes-one = by-equation (λ κs a r s p. both (p .0) (p .1))
+
+pub landfill-repair-one : Settled repair.Learnt (λ κs r s. r & now (s .1 .1 .0) & now (s .1 .1 .1 .0) & now (s .1 .1 .1 .1 .0))
+landfill-repair-one = by-equation (λ κs a r s p. both (p .0) (both (p .1 .0) (both (p .1 .1 .0) (p .1 .1 .1))))
 
 pub landfill-point-one : Settled point.Learnt (λ κs r s. r & now (s .1 .1 .0) & now (s .1 .1 .1 .0) & now (s .1 .1 .1 .1 .0))
 landfill-point-one = by-equation (λ κs a r s p. both (p .0) (both (p .1 .0) (both (p .1 .1 .0) (p .1 .1 .1))))
