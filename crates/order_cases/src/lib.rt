@@ -1,19 +1,26 @@
 // The case of a shuffled file, as docs/CASES.md has it. It prints the line of its payload on standard output, and nothing for a payload
 // that is too short for it; no contract can say what is printed. The program `cases` calls it.
 ghost use mathlib.Core.Path.{_≡_};
-ghost use Prim.Native.Nat.{_≤_};
+ghost use Prim.Native.Nat.{_≤_, _<_};
 ghost use lib.ListN.{length};
 use order::Repaired;
 
 // What stands ahead of the order: the room of the output and that of the report in 4 bytes each, and how many bytes the order has.
 pub const HEAD: usize = 9;
 
+// Answers a byte as a number of bytes.
+fn bytes_by(byte: u8) -> usize
+    ensures { λ r. ⌜ (r ≡ byte) × (r < 256) ⌝ }
+{
+    byte as usize
+}
+
 // Answers where the order ends in a payload: behind as many bytes as it says, or at the end where there are fewer.
 fn order_end(payload: &[u8]) -> usize
     requires { ⌜ 9 ≤ length (now payload) ⌝ }
     ensures { λ r. ⌜ (9 ≤ r) × (r ≤ length (now (payload .entry))) ⌝ }
 {
-    let end = HEAD + payload[8] as usize;
+    let end = HEAD + bytes_by(payload[8]);
     if end < payload.len() {
         end
     } else {
