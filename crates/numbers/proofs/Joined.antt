@@ -1,6 +1,6 @@
 -- Laws of lists that stand one after another, all of one length: how long they are together, one more behind them, and each of them.
 use mathlib.Core.Path.{_≡_, refl, sym, ap, _∙_}
-use mathlib.Core.List.{List, [], _++_}
+use mathlib.Core.List.{List}
 use mathlib.Core.Logic.{⊎-elim}
 use Prim.Native.Nat.{ℕ, zero, suc, _+_, _*_, _≤_, _<_}
 use native.Mathlib.Nat.{mul-zero, eq-or-lt-of-le, le-of-suc-le-suc, mul-le-mul-left}

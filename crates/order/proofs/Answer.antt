@@ -2,7 +2,7 @@
 use mathlib.Core.Path.{_≡_, refl, sym, ap, _∙_}
 use mathlib.Core.Bool.{Bool, true, false, true≢false, not, _||_}
 use mathlib.Core.List.{List, [], _∷_, _++_}
-use Prim.Native.Nat.{ℕ, suc, _+_, _*_, _/_, _%_, _≤_, _<_}
+use Prim.Native.Nat.{ℕ, suc, _+_, _*_, _%_, _≤_, _<_}
 use native.Mathlib.Nat.{zero-add}
 use native.Mathlib.Omega.{arith}
 use borrow.Author.Tests.{eq-eqb, ne-eqb, ltb-false}
@@ -10,12 +10,11 @@ use lib.Dec.{eqb, ltb}
 use lib.ListN.{length, getD, drop}
 use lib.Seq.{sets, sets-eq}
 use Rattle.numbers.specs.Eight.{eight, sumOf}
-use Rattle.numbers.specs.Fault.{firstOf}
 use Rattle.numbers.specs.Lists.{joined}
 use Rattle.numbers.proofs.Eight.{eight-at, sum-same}
 use Rattle.numbers.proofs.Joined.{joined-same, joined-length}
 use Rattle.record.specs.Fields.{massOf}
-use Rattle.order.specs.Order.{one, eightBits, isOrder, placeOf}
+use Rattle.order.specs.Order.{one, eightBits, isOrder}
 use Rattle.order.specs.Repair.{rewritten, isOther, recordIn, numberOfRecords, stoodAt, newFile, reportOf, bitsSet, repairFaults, repairRefusal, repairedOf, outLeft, reportLeft}
 use Rattle.order.specs.declared.Repaired.{Repaired}
 use Rattle.order.proofs.Bits.{bits-same}

@@ -1,8 +1,8 @@
 -- The law of the inverse order: it names at each type's place the place where the type stood, so it brings every mass back.
 use mathlib.Core.Path.{_≡_, refl, sym, ap, ap₂, _∙_}
-use mathlib.Core.Bool.{Bool, true, not}
+use mathlib.Core.Bool.{true, not}
 use mathlib.Core.List.{List, [], _∷_, _++_}
-use Prim.Native.Nat.{ℕ, _+_, _-_, _*_, _/_, _%_, _≤_, _<_}
+use Prim.Native.Nat.{ℕ, _+_, _-_, _/_, _%_, _<_}
 use native.Mathlib.Decide.{ℕ-discrete}
 use native.Mathlib.Omega.{arith}
 use borrow.Author.Tests.{eq-eqb, ne-eqb}
@@ -13,11 +13,11 @@ use Rattle.numbers.specs.Lists.{joined}
 use Rattle.numbers.proofs.Eight.{eight-at, sum-same}
 use Rattle.numbers.proofs.Joined.{joined-same}
 use Rattle.record.specs.Fields.{massOf}
-use Rattle.order.specs.Order.{one, eightBits, timesNamed, isOrder, placeOf}
-use Rattle.order.specs.Repair.{headOf, massBytes, rewritten, isOther, recordIn, numberOfRecords, stoodAt, newFile, reportOf, bitsSet}
+use Rattle.order.specs.Order.{one, eightBits, isOrder, placeOf}
+use Rattle.order.specs.Repair.{massBytes, rewritten, isOther, recordIn, numberOfRecords, stoodAt, newFile, reportOf, bitsSet}
 use Rattle.order.proofs.Bits.{bits-same}
-use Rattle.order.proofs.Named.{eight-bytes, named-at, order-when, place-lt, type-at, place-back}
-use Rattle.order.proofs.Records.{rewritten-length, head-kept, mass-moved, whole-record}
+use Rattle.order.proofs.Named.{named-at, order-when, place-lt, type-at, place-back}
+use Rattle.order.proofs.Records.{head-kept, mass-moved, whole-record}
 use Rattle.order.proofs.Answer.{new-length}
 use Rattle.order.proofs.Files.{record-again, file-again, new-record}
 

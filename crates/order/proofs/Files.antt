@@ -1,13 +1,13 @@
 -- Laws of a file: record by record it is the old one rewritten; and it is the old file exactly where no mass is another.
-use mathlib.Core.Path.{_≡_, refl, sym, ap, ap₂, _∙_}
-use mathlib.Core.Bool.{Bool, true, false, true≢false, not}
+use mathlib.Core.Path.{_≡_, refl, sym, ap, _∙_}
+use mathlib.Core.Bool.{Bool, true, false, not}
 use mathlib.Core.List.{List, [], _∷_, _++_}
-use Prim.Native.Nat.{ℕ, zero, suc, _+_, _-_, _*_, _/_, _%_, _≤_, _<_}
+use Prim.Native.Nat.{ℕ, zero, suc, _+_, _-_, _*_, _%_, _<_}
 use native.Mathlib.Omega.{arith}
 use borrow.Author.Tests.{eq-eqb, eqb-true}
 use lib.Dec.{eqb}
 use lib.ListN.{length, getD, take, drop, replicate, length-drop, take-append-drop}
-use lib.Seq.{take-all, take-length, drop-drop, getD-take, getD-drop, length-take-le}
+use lib.Seq.{take-all, take-length, drop-drop, getD-take, getD-drop}
 use Rattle.numbers.specs.Bytes.{numberAt, bytesOf}
 use Rattle.numbers.specs.Eight.{sumOf}
 use Rattle.numbers.specs.Lists.{joined}
@@ -15,7 +15,7 @@ use Rattle.numbers.proofs.Bytes.{bytes-again}
 use Rattle.numbers.proofs.Eight.{sum-each, sum-none}
 use Rattle.numbers.proofs.Joined.{joined-same, joined-part, joined-parts}
 use Rattle.record.specs.Fields.{massOf}
-use Rattle.order.specs.Order.{one, eightBits, isOrder, placeOf}
+use Rattle.order.specs.Order.{one, eightBits, isOrder}
 use Rattle.order.specs.Repair.{headOf, massBytes, rewritten, isOther, recordIn, numberOfRecords, stoodAt, newFile, reportOf, bitsSet}
 use Rattle.order.proofs.Bits.{no-bits-set}
 use Rattle.order.proofs.Named.{place-lt, type-at, place-back}

@@ -1,7 +1,7 @@
 -- Laws of an order: among eight bytes all types are named exactly where each is named once; then each type has one place and each place
 -- one type.
-use mathlib.Core.Path.{_≡_, refl, sym, ap, _∙_}
-use mathlib.Core.Bool.{Bool, true, false, true≢false, cond, _||_}
+use mathlib.Core.Path.{_≡_, refl, sym, ap, ap₂, _∙_}
+use mathlib.Core.Bool.{Bool, true, false, true≢false, cond, _&&_, _||_}
 use mathlib.Core.List.{List, [], _∷_, _++_}
 use mathlib.Core.Logic.{⊎-elim}
 use Prim.Native.Nat.{ℕ, zero, suc, _+_, _-_, _*_, _≤_, _<_}
@@ -86,7 +86,7 @@ pub order-when : (order : List ℕ) → length order ≡ 8 → ((k : ℕ) → k 
 unfolding isOrder
 order-when order size named =
     let sum : sumOf (λ k. timesNamed order (k + 1)) 8 ≤ 8 = omega (arith, by-byte 8 order, added-most (hits 8) (hits-most 8) order, size) in
-    rw (eq-eqb (length order) 8 size)
+    ap₂ (λ (a b : Bool). a && b) (eq-eqb (length order) 8 size)
     (every-each (λ k. eqb (timesNamed order (k + 1)) 1) 8 (λ k l. eq-eqb (timesNamed order (k + 1)) 1 (all-one (λ k. timesNamed order (k + 1)) 8 named sum k l)))
 
 module _ (order : List ℕ) (ok : isOrder order ≡ true) where

@@ -1,11 +1,9 @@
 -- Laws of a record that is rewritten: its head is the old one, and each mass is the old one of the place that it comes from.
-use mathlib.Core.Path.{_≡_, refl, sym, ap, _∙_}
-use mathlib.Core.Bool.{Bool, not}
+use mathlib.Core.Path.{_≡_, sym, ap, _∙_}
 use mathlib.Core.List.{List, _++_}
-use Prim.Native.Nat.{ℕ, _+_, _-_, _*_, _/_, _<_, _≤_}
+use Prim.Native.Nat.{ℕ, _+_, _-_, _*_, _<_}
 use native.Mathlib.Nat.{add-sub-cancel-left}
 use native.Mathlib.Omega.{arith}
-use lib.Dec.{eqb}
 use lib.ListN.{length, take, drop, length-append, length-drop}
 use lib.Seq.{length-take-le, take-at, drop-append-add}
 use Rattle.numbers.specs.Bytes.{numberAt}
@@ -13,7 +11,7 @@ use Rattle.numbers.specs.Lists.{joined}
 use Rattle.numbers.proofs.Bytes.{number-own}
 use Rattle.numbers.proofs.Joined.{joined-same, joined-length, joined-part}
 use Rattle.record.specs.Fields.{massOf}
-use Rattle.order.specs.Repair.{headOf, massBytes, rewritten, isOther, recordIn, numberOfRecords}
+use Rattle.order.specs.Repair.{headOf, massBytes, rewritten, recordIn, numberOfRecords}
 
 pub mass-own : (bytes : List ℕ) (t : ℕ) → massOf bytes t ≡ numberAt 4 (massBytes bytes t) 0
 unfolding massOf

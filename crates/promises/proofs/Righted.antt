@@ -3,25 +3,25 @@ use mathlib.Core.Path.{_≡_, refl, sym, ap, ap₂, _∙_}
 use mathlib.Core.Bool.{Bool, true, false, true≢false, not}
 use mathlib.Core.List.{List, [], _∷_, _++_}
 use mathlib.Core.Logic.{_↔_}
-use Prim.Native.Nat.{ℕ, suc, _+_, _-_, _*_, _/_, _%_, _^_, _≤_, _<_}
+use Prim.Native.Nat.{ℕ, _+_, _-_, _*_, _/_, _%_, _^_, _<_}
 use native.Mathlib.Omega.{arith}
 use borrow.Author.Tests.{eq-eqb, eqb-true}
 use lib.Dec.{eqb}
-use lib.ListN.{length, getD, take, drop, replicate, length-append, length-drop, List·getD-append}
+use lib.ListN.{length, getD, take, drop, length-append, length-drop, List·getD-append}
 use lib.Seq.{take-at, drop-at}
 use Rattle.numbers.specs.Eight.{sumOf}
 use Rattle.numbers.proofs.Bytes.{number-same}
 use Rattle.numbers.proofs.Eight.{eight-at, sum-same}
 use Rattle.record.specs.Fields.{massOf}
-use Rattle.order.specs.Order.{one, eightBits, isOrder, placeOf}
-use Rattle.order.specs.Repair.{massBytes, isOther, recordIn, numberOfRecords, stoodAt, newFile, reportOf, bitsSet, outLeft, reportLeft}
+use Rattle.order.specs.Order.{one, eightBits, placeOf}
+use Rattle.order.specs.Repair.{massBytes, isOther, recordIn, stoodAt, newFile, reportOf, bitsSet}
 use Rattle.order.proofs.Bits.{bits-lt, bit-is}
 use Rattle.order.proofs.Named.{place-lt, type-at, place-back, sum-by-order}
 use Rattle.order.proofs.Records.{mass-from, whole-record}
 use Rattle.order.proofs.Answer.{rooms, new-length, report-length, changed-is, out-is, report-is}
 use Rattle.order.proofs.Files.{in-record, report-at, new-record, head-byte, mass-byte, record-kept, file-kept, nothing-counted, nothing-reported, file-same}
 use Rattle.order.proofs.Back as undone
-use Rattle.promises.specs.Shuffled.{Shuffled, Righted, righted, NamesEach, number, Room, massAt, timesAt, bitOf, PutRight, copied, Inverse, again, BroughtBack}
+use Rattle.promises.specs.Shuffled.{Shuffled, righted, NamesEach, number, Room, massAt, timesAt, bitOf, PutRight, copied, Inverse, again, BroughtBack}
 use Rattle.promises.proofs.Shuffled.{Passed, when-passed, names-each, is-order, same-righted, repair-where}
 
 -- A mass of a file is that of its record.

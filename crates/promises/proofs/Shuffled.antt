@@ -1,30 +1,20 @@
 -- What request g claims: the laws of orders and files (order), carried to bytes, bits and refusals by number.
 use mathlib.Core.Path.{_≡_, refl, sym, ap, ap₂, _∙_}
-use mathlib.Core.Bool.{Bool, true, false, true≢false, not, _||_}
-use mathlib.Core.List.{List, [], _∷_, _++_}
+use mathlib.Core.Bool.{Bool, true, false, true≢false, _||_}
+use mathlib.Core.List.{List}
 use mathlib.Core.Logic.{_↔_}
-use Prim.Native.Nat.{ℕ, suc, _+_, _-_, _*_, _/_, _%_, _^_, _≤_, _<_}
+use Prim.Native.Nat.{ℕ, suc, _+_, _-_, _%_}
 use native.Mathlib.Decide.{ℕ-discrete}
 use native.Mathlib.Omega.{arith}
-use borrow.Author.Tests.{eq-eqb, ne-eqb, eqb-true, le-ltb, ltb-false}
-use lib.Dec.{eqb, ltb}
-use lib.ListN.{length, getD, take, drop, length-append, length-drop, List·getD-append}
-use lib.Seq.{take-at, drop-at}
-use Rattle.numbers.specs.Bytes.{numberAt}
-use Rattle.numbers.specs.Eight.{sumOf}
-use Rattle.numbers.proofs.Bytes.{number-same}
-use Rattle.numbers.proofs.Eight.{sum-same}
-use Rattle.record.specs.Fields.{massOf}
-use Rattle.order.specs.Order.{one, eightBits, timesNamed, isOrder, typesSeen, placeOf}
-use Rattle.order.specs.Repair.{rewritten, isOther, recordIn, numberOfRecords, stoodAt, newFile, reportOf, bitsSet, repairedOf, outLeft, reportLeft}
+use borrow.Author.Tests.{eq-eqb, eqb-true, le-ltb}
+use lib.Dec.{ltb}
+use lib.ListN.{length}
+use Rattle.order.specs.Order.{isOrder, typesSeen, placeOf}
+use Rattle.order.specs.Repair.{numberOfRecords, repairedOf, outLeft, reportLeft}
 use Rattle.order.specs.declared.Repaired.{Repaired}
-use Rattle.order.proofs.Bits.{bits-lt, bit-is}
-use Rattle.order.proofs.Named.{eight-bytes, named-at, order-when, full-set, place-lt, at-place, place-back, sum-by-order}
-use Rattle.order.proofs.Records.{mass-from, whole-record}
-use Rattle.order.proofs.Answer.{rooms, new-length, report-length, no-order, not-whole, no-room, refusal-is, changed-is, out-is, report-is}
-use Rattle.order.proofs.Files.{in-record, report-at, new-record, head-byte, mass-byte, record-kept, file-kept, nothing-counted, nothing-reported, file-same}
-use Rattle.order.proofs.Back as undone
-use Rattle.promises.specs.Shuffled.{Shuffled, Righted, righted, NamedOnce, NamesEach, number, Whole, Room, massAt, timesAt, bitOf, PutRight, untouched, copied, Inverse, again, BroughtBack}
+use Rattle.order.proofs.Named.{eight-bytes, named-at, order-when, full-set, place-lt, at-place, place-back}
+use Rattle.order.proofs.Answer.{rooms, no-order, not-whole, no-room, refusal-is}
+use Rattle.promises.specs.Shuffled.{Shuffled, Righted, righted, NamesEach, number, Whole, Room, untouched}
 
 -- An order as the request says it, and as it is tested.
 pub names-each : (order : List ℕ) → isOrder order ≡ true → NamesEach order

@@ -1,15 +1,9 @@
 -- Each test says what the law of its answer asks (Answer.antt); where all pass, what was written is the file and its report.
-use mathlib.Core.Path.{_≡_, sym, ap, _∙_}
-use mathlib.Core.Bool.{true, false, _||_}
-use mathlib.Core.List.{List}
-use Prim.Native.Nat.{ℕ, _≤_, _<_}
+use mathlib.Core.Path.{_≡_, sym, _∙_}
+use mathlib.Core.Bool.{true}
 use borrow.Author.Needs.{needs}
 use borrow.Author.Tests.{not-true, not-false}
-use lib.Dec.{ltb}
-use lib.ListN.{length}
-use lib.Seq.{sets}
 use Rattle.order.specs.Order.{isOrder}
-use Rattle.order.specs.Repair.{numberOfRecords}
 use Rattle.order.proofs.Answer.{places-near, rooms, no-order, not-whole, no-room, accepted}
 use Rattle.order.proofs.repair.Statement.{statement}
 use Rattle.order.proofs.repair.Tie as tie

@@ -1,6 +1,5 @@
 -- The four bytes of the mass lie within the record.
 use borrow.Author.Needs.{needs}
-use native.Mathlib.Omega.{arith}
 use Rattle.record.specs.Fields.{massOf}
 use Rattle.order.proofs.masses.mass_at.Statement.{statement}
 use Rattle.order.proofs.masses.mass_at.Tie as tie

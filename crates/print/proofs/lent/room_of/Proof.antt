@@ -1,7 +1,5 @@
 -- The room that is asked for, where it is under the longest.
-use mathlib.Core.Path.{sym}
 use native.Mathlib.Omega.{arith}
-use borrow.Author.Needs.{needs}
 use borrow.Author.Tests.{lt-ltb, le-ltb}
 use Rattle.print.proofs.lent.room_of.Statement.{statement}
 use Rattle.print.proofs.lent.room_of.Tie as tie
