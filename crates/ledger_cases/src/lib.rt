@@ -65,7 +65,7 @@ pub fn step(payload: &[u8])
     if payload.len() < STEP_HEAD {
         return;
     }
-    let mut out = print::output();
+    let mut out = print::buffer();
     let room = numbers::read_u16(payload, image::BYTES) as usize;
     let lent = &mut out[0..room];
     let answer = ledger_of(payload).take(&payload[STEP_HEAD..], lent);
@@ -88,7 +88,7 @@ pub fn run(payload: &[u8])
     if payload.len() < RUN_HEAD {
         return;
     }
-    let mut out = print::output();
+    let mut out = print::buffer();
     let room = print::room_of(numbers::read_u32(payload, image::BYTES));
     let lent = &mut out[0..room];
     let outcome = ledger::run(ledger_of(payload), &payload[RUN_HEAD..], lent);

@@ -9,12 +9,12 @@ use borrow.Author.Tests.{eq-eqb, ne-eqb, ltb-false}
 use lib.Dec.{eqb, ltb}
 use lib.ListN.{length, getD, drop}
 use lib.Seq.{sets, sets-eq}
-use Rattle.numbers.specs.Eight.{eight, sumOf}
+use Rattle.numbers.specs.Eight.{one, eight, sumOf}
 use Rattle.numbers.specs.Lists.{joined}
 use Rattle.numbers.proofs.Eight.{eight-at, sum-same}
 use Rattle.numbers.proofs.Joined.{joined-same, joined-length}
 use Rattle.record.specs.Fields.{massOf}
-use Rattle.order.specs.Order.{one, eightBits, isOrder}
+use Rattle.order.specs.Order.{eightBits, isOrder}
 use Rattle.order.specs.Repair.{rewritten, isOther, recordIn, numberOfRecords, stoodAt, newFile, reportOf, bitsSet, repairFaults, repairRefusal, repairedOf, outLeft, reportLeft}
 use Rattle.order.specs.declared.Repaired.{Repaired}
 use Rattle.order.proofs.Bits.{bits-same}

@@ -8,12 +8,12 @@ use native.Mathlib.Omega.{arith}
 use borrow.Author.Tests.{eq-eqb, ne-eqb}
 use lib.Dec.{eqb}
 use lib.ListN.{length, getD}
-use Rattle.numbers.specs.Eight.{eight, sumOf}
+use Rattle.numbers.specs.Eight.{one, eight, sumOf}
 use Rattle.numbers.specs.Lists.{joined}
 use Rattle.numbers.proofs.Eight.{eight-at, sum-same}
 use Rattle.numbers.proofs.Joined.{joined-same}
 use Rattle.record.specs.Fields.{massOf}
-use Rattle.order.specs.Order.{one, eightBits, isOrder, placeOf}
+use Rattle.order.specs.Order.{eightBits, isOrder, placeOf}
 use Rattle.order.specs.Repair.{massBytes, rewritten, isOther, recordIn, numberOfRecords, stoodAt, newFile, reportOf, bitsSet}
 use Rattle.order.proofs.Bits.{bits-same}
 use Rattle.order.proofs.Named.{named-at, order-when, place-lt, type-at, place-back}
@@ -75,9 +75,6 @@ module _ (order back : List ℕ) (ok : isOrder order ≡ true) (undoes : Undoes 
       ∙ record-again bytes size
 
   module _ (file : List ℕ) (whole : length file % 48 ≡ 0) where
-    new : List ℕ
-    new = newFile order file
-
     pub new-size : length (newFile order file) ≡ length file
     new-size = omega (arith, new-length order file ok, whole)
 

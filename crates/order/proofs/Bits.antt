@@ -11,9 +11,9 @@ use lib.Bits.{bitOr, or-block, or-shifted-r}
 use lib.Count.{ones, ones-cat}
 use lib.Dec.{eqb}
 use lib.Pow.{pow-pos, pow-add, shl-exact, high}
-use Rattle.numbers.specs.Eight.{sumOf, everyOf}
+use Rattle.numbers.specs.Eight.{one, sumOf, everyOf}
 use Rattle.numbers.proofs.Eight.{sum-same, sum-each, sum-most, both-true}
-use Rattle.order.specs.Order.{one, eightBits}
+use Rattle.order.specs.Order.{eightBits}
 
 -- The number whose bits below n are set where the test holds; eight of them are `eightBits`.
 abbrev pub bitsBelow : (ℕ → Bool) → ℕ → ℕ

@@ -9,13 +9,13 @@ use lib.Dec.{eqb}
 use lib.ListN.{length, getD, take, drop, replicate, length-drop, take-append-drop}
 use lib.Seq.{take-all, take-length, drop-drop, getD-take, getD-drop}
 use Rattle.numbers.specs.Bytes.{numberAt, bytesOf}
-use Rattle.numbers.specs.Eight.{sumOf}
+use Rattle.numbers.specs.Eight.{one, sumOf}
 use Rattle.numbers.specs.Lists.{joined}
 use Rattle.numbers.proofs.Bytes.{bytes-again}
 use Rattle.numbers.proofs.Eight.{sum-each, sum-none}
 use Rattle.numbers.proofs.Joined.{joined-same, joined-part, joined-parts}
 use Rattle.record.specs.Fields.{massOf}
-use Rattle.order.specs.Order.{one, eightBits, isOrder}
+use Rattle.order.specs.Order.{eightBits, isOrder}
 use Rattle.order.specs.Repair.{headOf, massBytes, rewritten, isOther, recordIn, numberOfRecords, stoodAt, newFile, reportOf, bitsSet}
 use Rattle.order.proofs.Bits.{no-bits-set}
 use Rattle.order.proofs.Named.{place-lt, type-at, place-back}

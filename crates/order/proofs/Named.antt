@@ -14,11 +14,11 @@ use lib.Bits.{bitOr}
 use lib.Dec.{eqb, ltb}
 use lib.ListN.{length, getD, take}
 use lib.Seq.{take-suc, ext-getD}
-use Rattle.numbers.specs.Eight.{eight, sumOf, everyOf}
+use Rattle.numbers.specs.Eight.{one, eight, sumOf, everyOf}
 use Rattle.numbers.specs.Lists.{added}
 use Rattle.numbers.proofs.Eight.{eight-at, sum-same, sum-each, sum-at-most, sum-plus, sum-times, sum-single, sum-swap, both-true, every-at, every-each}
 use Rattle.numbers.proofs.Lists.{added-more}
-use Rattle.order.specs.Order.{one, eightBits, timesNamed, isOrder, typesSeen, placeOf}
+use Rattle.order.specs.Order.{eightBits, timesNamed, isOrder, typesSeen, placeOf}
 use Rattle.order.proofs.Bits.{one-most, or-bits, bits-same, all-bits, each-bit}
 
 -- How many of the types 1 to n a byte is: one at most.

@@ -5,12 +5,8 @@ use mathlib.Core.List.{List, [], _∷_}
 use Prim.Native.Nat.{ℕ, suc, _+_, _*_, _^_}
 use lib.Dec.{eqb, ltb}
 use lib.ListN.{length}
-use Rattle.numbers.specs.Eight.{sumOf, everyOf}
+use Rattle.numbers.specs.Eight.{one, sumOf, everyOf}
 use Rattle.numbers.specs.Lists.{added}
-
--- 1 where a test holds, else 0.
-abbrev pub one : Bool → ℕ
-one test = cond test 1 0
 
 -- The number whose bit k, from 0 to 7, is set exactly where the test holds of k.
 unfoldable pub eightBits : (ℕ → Bool) → ℕ

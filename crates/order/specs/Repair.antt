@@ -5,11 +5,11 @@ use mathlib.Core.List.{List, [], _∷_, _++_}
 use Prim.Native.Nat.{ℕ, _+_, _*_, _/_, _%_}
 use lib.Dec.{eqb, ltb}
 use lib.ListN.{length, take, drop}
-use Rattle.numbers.specs.Eight.{sumOf}
+use Rattle.numbers.specs.Eight.{one, sumOf}
 use Rattle.numbers.specs.Fault.{Fault, _when_, firstOf}
 use Rattle.numbers.specs.Lists.{joined}
 use Rattle.record.specs.Fields.{recordBytes, massOf}
-use Rattle.order.specs.Order.{one, eightBits, isOrder, placeOf}
+use Rattle.order.specs.Order.{eightBits, isOrder, placeOf}
 use Rattle.order.specs.declared.Repaired.{Repaired}
 
 -- What a record has ahead of its masses, and the 4 bytes of the mass at a place.

@@ -34,10 +34,10 @@ pub fn repair(order: &[u8], file: &[u8], out: &mut [u8], report: &mut [u8]) -> R
     if !types::is_order(order) {
         return refuse(20);
     }
-    if file.len() % rewrite::RECORD != 0 {
+    if file.len() % record::BYTES != 0 {
         return refuse(21);
     }
-    if (out.len() < file.len()) | (report.len() < file.len() / rewrite::RECORD) {
+    if (out.len() < file.len()) | (report.len() < file.len() / record::BYTES) {
         return refuse(22);
     }
     let places = places::places_of(order);

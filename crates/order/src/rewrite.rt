@@ -5,14 +5,11 @@ ghost use Prim.Native.Nat.{_+_, _*_, _/_, _≤_, _<_};
 ghost use lib.Count.{ones};
 ghost use lib.ListN.{length, getD};
 ghost use lib.Seq.{sets};
-ghost use Rattle.numbers.specs.Eight.{sumOf};
+ghost use Rattle.numbers.specs.Eight.{one, sumOf};
 ghost use Rattle.numbers.specs.Lists.{joined};
-ghost use Rattle.order.specs.Order.{one, eightBits};
+ghost use Rattle.order.specs.Order.{eightBits};
 ghost use Rattle.order.specs.Repair.{rewritten, isOther, recordIn, numberOfRecords};
 use crate::masses::write_record;
-
-// The bytes of a record.
-pub(crate) const RECORD: usize = 48;
 
 // Answers how many bits of a byte are set.
 fn ones_in(byte: u8) -> u64
@@ -28,12 +25,12 @@ pub(crate) fn rewrite(file: &[u8], places: [usize; 8], out: &mut [u8], report: &
     ensures { λ _. ⌜ now (out .exit) ≡ sets (now (out .entry)) 0 (joined (λ q. rewritten (λ u. getD places u 0) (recordIn (now (file .entry)) q)) (numberOfRecords (now (file .entry)))) ⌝ }
     ensures { λ _. ⌜ now (report .exit) ≡ sets (now (report .entry)) 0 (joined (λ q. eightBits (isOther (λ u. getD places u 0) (recordIn (now (file .entry)) q)) ∷ []) (numberOfRecords (now (file .entry)))) ⌝ }
 {
-    let count = file.len() / RECORD;
+    let count = file.len() / record::BYTES;
     let mut changed = 0u64;
     let mut q: usize = 0;
     while q < count {
-        let at = RECORD * q;
-        let end = at + RECORD;
+        let at = record::BYTES * q;
+        let end = at + record::BYTES;
         let bits = write_record(&file[at..end], places, out, at);
         numbers::write_u8(report, q, bits);
         changed += ones_in(bits);

@@ -41,8 +41,8 @@ pub fn repair(payload: &[u8])
     if payload.len() < HEAD {
         return;
     }
-    let mut out = print::output();
-    let mut report = print::output();
+    let mut out = print::buffer();
+    let mut report = print::buffer();
     let room = print::room_of(numbers::read_u32(payload, 0));
     let report_room = print::room_of(numbers::read_u32(payload, 4));
     let end = order_end(payload);

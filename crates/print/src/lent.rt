@@ -9,7 +9,7 @@ ghost use lib.ListN.{length, replicate};
 const LONGEST: usize = 65536;
 
 // Answers a buffer of the longest length, filled so that a byte that keeps its value is seen.
-pub fn output() -> [u8; LONGEST]
+pub fn buffer() -> [u8; LONGEST]
     ensures { λ r. ⌜ (r ≡ replicate 65536 165) × (65536 ≡ length r) ⌝ }
 {
     [0xA5; LONGEST]

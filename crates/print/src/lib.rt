@@ -7,7 +7,7 @@ use libc::STDOUT_FILENO;
 
 mod lent;
 
-pub use lent::output;
+pub use lent::buffer;
 pub use lent::room_of;
 
 // The bytes of a page, on which long words are gathered.

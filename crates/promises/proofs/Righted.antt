@@ -9,11 +9,11 @@ use borrow.Author.Tests.{eq-eqb, eqb-true}
 use lib.Dec.{eqb}
 use lib.ListN.{length, getD, take, drop, length-append, length-drop, List·getD-append}
 use lib.Seq.{take-at, drop-at}
-use Rattle.numbers.specs.Eight.{sumOf}
+use Rattle.numbers.specs.Eight.{one, sumOf}
 use Rattle.numbers.proofs.Bytes.{number-same}
 use Rattle.numbers.proofs.Eight.{eight-at, sum-same}
 use Rattle.record.specs.Fields.{massOf}
-use Rattle.order.specs.Order.{one, eightBits, placeOf}
+use Rattle.order.specs.Order.{eightBits, placeOf}
 use Rattle.order.specs.Repair.{massBytes, isOther, recordIn, stoodAt, newFile, reportOf, bitsSet}
 use Rattle.order.proofs.Bits.{bits-lt, bit-is}
 use Rattle.order.proofs.Named.{place-lt, type-at, place-back, sum-by-order}

@@ -224,7 +224,7 @@ pub record Promises : Type 0 where
   pub repair-20 : (s : Shuffled) → (righted s ≡ untouched 20 s) ↔ (NamesEach (s .order) → ⊥)
   pub repair-21 : (s : Shuffled) → (righted s ≡ untouched 21 s) ↔ (NamesEach (s .order) × (Whole s → ⊥))
   pub repair-22 : (s : Shuffled) → (righted s ≡ untouched 22 s) ↔ (NamesEach (s .order) × Whole s × (Room s → ⊥))
-  -- 'eight-bit set of types seen, [..] full exactly when the order is a permutation'
+  -- Document 01: 'eight-bit set of types seen, [..] full exactly when the order is a permutation'.
   pub types-seen : (order : List ℕ) → length order ≡ 8 → (typesSeen order ≡ 255) ↔ NamesEach order
   -- 'rewrite a file of records into a second buffer with every mass at its type's place', and so on.
   pub repair-well : (s : Shuffled) → righted s .refusal ≡ 0 → PutRight s (righted s)

@@ -6,8 +6,7 @@ use Prim.Native.Nat.{ℕ, _+_, _-_, _*_, _/_, _%_, _^_, _≤_, _<_}
 use lib.Dec.{eqb}
 use lib.ListN.{length, getD, take, drop, replicate}
 use Rattle.numbers.specs.Bytes.{numberAt}
-use Rattle.numbers.specs.Eight.{sumOf}
-use Rattle.order.specs.Order.{one}
+use Rattle.numbers.specs.Eight.{one, sumOf}
 use Rattle.order.specs.Repair.{repairedOf, outLeft, reportLeft}
 
 -- What a call is handed: the order, the file, and the two buffers as they are.
@@ -54,7 +53,7 @@ Whole s = length (s .file) ≡ 48 * number s
 abbrev pub Room : Shuffled → Type 0
 Room s = (length (s .file) ≤ length (s .out)) × (number s ≤ length (s .report))
 
--- The mass at place t of record q, as a number, how often it is a number of kilograms in that record, and bit t of a byte.
+-- The mass at place t of record q, as a number; at how many places of that record so many kilograms stand; and bit t of a byte.
 abbrev pub massAt : (file : List ℕ) (q t : ℕ) → ℕ
 massAt file q t = numberAt 4 file (48 * q + 16 + 4 * t)
 

@@ -9,11 +9,11 @@ use denote.Ref.{now}
 use lib.Count.{ones}
 use lib.ListN.{length, getD, take, drop}
 use lib.Seq.{sets, length-sets}
-use Rattle.numbers.specs.Eight.{sumOf}
+use Rattle.numbers.specs.Eight.{one, sumOf}
 use Rattle.numbers.specs.Lists.{joined}
 use Rattle.numbers.proofs.Eight.{sum-more, sum-most}
 use Rattle.numbers.proofs.Joined.{joined-more}
-use Rattle.order.specs.Order.{one, eightBits}
+use Rattle.order.specs.Order.{eightBits}
 use Rattle.order.specs.Repair.{rewritten, isOther, recordIn, numberOfRecords}
 use Rattle.order.proofs.Bits.{eight-most, ones-bits}
 use Rattle.order.proofs.Records.{part-is, whole-record, rewritten-length}
