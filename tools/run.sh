@@ -6,10 +6,10 @@
 #
 # A program has no exit status of its own. The status tells how it went:
 #   0  the program ended well
-#   1  the listing ended with a refusal: its last line says which
+#   1  the listing, or the repair, ended with a refusal: the listing's last line, or the repair's account, says which
 #   2  there is no program of that name
 #   3  the program is not proved, or it fails on its stored sample: the log is shown, and nothing is run
-#   4  the program wrote to standard error, or did not come to its end
+#   4  the program wrote something else than an account to standard error, or did not come to its end
 set -u -o pipefail
 
 say() { printf 'run.sh: %s\n' "$*" >&2; }
@@ -68,6 +68,14 @@ case $name in
 listing) run "$@" 3>&1 | tee "$room/text" ;;
 *) run "$@" 3>&1 ;;
 esac || exit 4
+# A repair says one line on standard error, its account; no other program says a word there.
+if [ "$name" = repair ]; then
+    case $(wc -l <"$room/said"):$(cat "$room/said") in
+    1:'repair: '[0-9]*', refusal 0') exit 0 ;;
+    1:'repair: '[0-9]*', refusal '[1-9]*) exit 1 ;;
+    *) exit 4 ;;
+    esac
+fi
 [ ! -s "$room/said" ] || exit 4
 [ "$name" = listing ] || exit 0
 case $(tail -n 1 "$room/text") in 'refused '*) exit 1 ;; esac

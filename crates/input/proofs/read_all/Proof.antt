@@ -6,8 +6,8 @@ use borrow.Author.Needs.{needs}
 use lib.ListN.{length}
 use lib.Seq.{length-take-le}
 use Rattle.io.specs.Counts.{Counts}
-use Rattle.listing.proofs.read_input.Statement.{statement}
-use Rattle.listing.proofs.read_input.Tie as tie
+use Rattle.input.proofs.read_all.Statement.{statement}
+use Rattle.input.proofs.read_all.Tie as tie
 
 abbrev Inv-loop : tie.InvT-loop
 Inv-loop file₀ read₀ turns₀ file read turns = (read ≤ length file) × (length file ≡ length file₀)
@@ -18,8 +18,8 @@ abbrev μ-loop : tie.MeasureT-loop
 within : (n : ℕ) (xs : List ℕ) → n ≤ length xs → Counts n xs
 within n xs h = (h, sym (length-take-le n xs h))
 
-pub read-input-spec : {M : Type 1} → statement M
-read-input-spec =
+pub read-all-spec : {M : Type 1} → statement M
+read-all-spec =
     tie.close
     (tie.spec Inv-loop μ-loop (λ c. search needs) (λ c. search needs) (λ c. search needs) (λ c. search needs) (λ c κs. tt) (λ c κs. tt)
     (λ c. search needs) (λ c. search needs) (λ c. search needs) (λ c. search needs) (λ c κs. tt) (λ c. search needs)
