@@ -13,10 +13,8 @@ ghost use lib.ListN.{length};
 // The most records of a file, ten times what a ledger takes: there is no heap.
 const RECORDS: usize = 12_000;
 
-// The bytes of a record, and of the longest file.
-const RECORD: usize = 48;
-
-const FILE_BYTES: usize = RECORD * RECORDS;
+// The bytes of the longest file.
+const FILE_BYTES: usize = record::BYTES * RECORDS;
 
 // Writes the file, or the lines of its report, to standard output, and tells whether that went well.
 fn write_out(reports: bool, file: &[u8], report: &[u8]) -> bool {
@@ -34,7 +32,7 @@ fn put_right(reports: bool, types: &[u8], file: &[u8])
     let mut report = [0u8; RECORDS];
     let repaired = order::repair(types, file, &mut out, &mut report);
     let bytes = file.len();
-    let records = bytes / RECORD;
+    let records = bytes / record::BYTES;
     if repaired.refusal == 0 {
         if !write_out(reports, &out[..bytes], &report[..records]) {
             os::fail(b"repair: standard output");
