@@ -3,7 +3,6 @@
 // changes, to standard output; a short account of it goes to standard error.
 mod account;
 mod arguments;
-mod report;
 
 use arguments::Asked;
 use libc::STDOUT_FILENO;
@@ -19,7 +18,7 @@ const FILE_BYTES: usize = record::BYTES * RECORDS;
 // Writes the file, or the lines of its report, to standard output, and tells whether that went well.
 fn write_out(reports: bool, file: &[u8], report: &[u8]) -> bool {
     if reports {
-        return report::print_report(report);
+        return changes::print_report(report);
     }
     io::write_all(STDOUT_FILENO, file)
 }

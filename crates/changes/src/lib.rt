@@ -1,9 +1,10 @@
-// The report: a line for each record that changed.
+// The report of a repair as text, on standard output: a line for each record that changed. The program `repair` calls it.
+// What is written no contract can say; the text of a line is proved.
 ghost use Prim.Native.Nat.{_+_, _≤_};
 ghost use lib.ListN.{length};
 ghost use Rattle.line.specs.Line.{decimalOf};
 ghost use Rattle.line.specs.Writing.{Writes};
-ghost use Rattle.repair.specs.Report.{placesText, recordText};
+ghost use Rattle.changes.specs.Report.{placesText, recordText};
 use libc::STDOUT_FILENO;
 
 // The most bytes of a line: its words, a number of 20 digits, eight places and its end.
@@ -65,7 +66,7 @@ fn print_record(place: u64, bits: u8) -> bool {
 }
 
 // Prints a line for each record that changed, and tells whether that went well.
-pub(crate) fn print_report(report: &[u8]) -> bool {
+pub fn print_report(report: &[u8]) -> bool {
     let mut q: usize = 0;
     while q < report.len() {
         if report[q] != 0 {

@@ -2,8 +2,8 @@
 use Prim.Native.Nat.{_-_, _≤_}
 use borrow.Author.Needs.{needs}
 use lib.ListN.{length}
-use Rattle.repair.proofs.report.print_report.Statement.{statement}
-use Rattle.repair.proofs.report.print_report.Tie as tie
+use Rattle.changes.proofs.print_report.Statement.{statement}
+use Rattle.changes.proofs.print_report.Tie as tie
 
 abbrev Inv-loop : tie.InvT-loop
 Inv-loop report q₀ q = q ≤ length report

@@ -2,8 +2,8 @@
 use mathlib.Core.Path.{sym}
 use borrow.Author.Needs.{needs}
 use lib.Seq.{length-take-le}
-use Rattle.repair.proofs.report.print_record.Statement.{statement}
-use Rattle.repair.proofs.report.print_record.Tie as tie
+use Rattle.changes.proofs.print_record.Statement.{statement}
+use Rattle.changes.proofs.print_record.Tie as tie
 
 pub print-record-spec : {M : Type 1} → statement M
 print-record-spec =

@@ -2,9 +2,9 @@
 use native.Mathlib.Omega.{arith}
 use borrow.Author.Needs.{needs}
 use Rattle.line.proofs.Writing.{write-on}
-use Rattle.repair.specs.Report.{recordText}
-use Rattle.repair.proofs.report.put_record.Statement.{statement}
-use Rattle.repair.proofs.report.put_record.Tie as tie
+use Rattle.changes.specs.Report.{recordText}
+use Rattle.changes.proofs.put_record.Statement.{statement}
+use Rattle.changes.proofs.put_record.Tie as tie
 
 returns : tie.Need-returns
 unfolding recordText

@@ -7,10 +7,10 @@ use borrow.Author.Needs.{needs}
 use borrow.Author.Tests.{eq-eqb, ne-eqb}
 use Rattle.numbers.specs.Lists.{joined}
 use Rattle.line.specs.Writing.{Writes}
-use Rattle.repair.specs.Report.{placeText, placesText}
-use Rattle.repair.proofs.Text.{place-written, place-passed}
-use Rattle.repair.proofs.report.put_places.Statement.{statement}
-use Rattle.repair.proofs.report.put_places.Tie as tie
+use Rattle.changes.specs.Report.{placeText, placesText}
+use Rattle.changes.proofs.Text.{place-written, place-passed}
+use Rattle.changes.proofs.put_places.Statement.{statement}
+use Rattle.changes.proofs.put_places.Tie as tie
 
 abbrev Inv-loop : tie.InvT-loop
 Inv-loop line₀ at bits end₀ t₀ line end t = (t ≤ 8) × (end ≤ at + 2 * t) × Writes line₀ at (joined (placeText bits) t) line end

@@ -13,7 +13,7 @@ use Rattle.line.specs.Line.{decimalOf}
 use Rattle.line.specs.Writing.{Writes}
 use Rattle.line.proofs.Decimal.{one-digit, more-digits}
 use Rattle.line.proofs.Writing.{write-on}
-use Rattle.repair.specs.Report.{isSet, placeText}
+use Rattle.changes.specs.Report.{isSet, placeText}
 
 -- A digit below 10, and a power of 10 that is not 0.
 decimal-glyph : (d : ℕ) → d < 10 → glyph d ≡ 48 + d

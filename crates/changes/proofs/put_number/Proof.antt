@@ -5,9 +5,9 @@ use borrow.Author.Needs.{needs}
 use lib.ListN.{length, take}
 use Rattle.line.specs.Line.{decimalOf}
 use Rattle.line.proofs.Decimal.{few}
-use Rattle.repair.proofs.Text.{plain-decimal}
-use Rattle.repair.proofs.report.put_number.Statement.{statement}
-use Rattle.repair.proofs.report.put_number.Tie as tie
+use Rattle.changes.proofs.Text.{plain-decimal}
+use Rattle.changes.proofs.put_number.Statement.{statement}
+use Rattle.changes.proofs.put_number.Tie as tie
 
 spelt : (c : tie.After-decimal) → take (c .decimal .result) (c .decimal .last .1 .0) ≡ decimalOf (c .before .before .before .args .n)
 spelt c = c .decimal .ensures .1 .1 ∙ plain-decimal _ _ (c .decimal .ensures .1 .0)
