@@ -9,12 +9,12 @@ use lib.ListN.{length, take}
 use Rattle.record.specs.Fields.{recordBytes}
 use Rattle.ledger.specs.Refusal.{refusalOf}
 use Rattle.ledger.specs.Take.{acceptedOf, takeOf}
-use Rattle.ledger.specs.History.{Turn, turns, ledgerAfter, recordsOf, inTurn, runOf}
+use Rattle.run.specs.History.{Offer, Turn, turns, ledgerAfter, recordsOf, inTurn, runOf}
 use Rattle.ledger.specs.declared.book.Ledger.{Ledger}
 use Rattle.ledger.proofs.Take.{taken, take-refusal, refused-keeps}
-use Rattle.ledger.proofs.History.{run-goes-on, run-stops, run-ends}
+use Rattle.run.proofs.History.{run-goes-on, run-stops, run-ends}
 use Rattle.image.specs.Image.{imageOf, Kept}
-use Rattle.image.proofs.Kept.{image-back}
+use Rattle.image.proofs.Kept.{image-back, accepted-kept, step-kept}
 use Rattle.calls.specs.Calls.{roomOf, takeHere, takeImage, runHere, runImage, offerOf, offersOf}
 use Rattle.calls.proofs.Takes.{when-zero, when-not}
 
@@ -58,3 +58,18 @@ module _ (l : Ledger) (k : Kept l) where
         | yes e ↦ when-zero (length (r .accepted)) (imageOf l) (imageOf (r .ledger)) e ∙ ap imageOf (sym (none-after l (r .accepted) e) ∙ offered)
         | no e ↦ when-not (length (r .accepted)) (imageOf l) (imageOf (r .ledger)) e ∙ ap imageOf offered
       ])
+
+-- The ledger after some turns,
+pub turns-kept : (l : Ledger) (offers : List Offer) → Kept l → Kept (ledgerAfter l (turns l offers))
+unfolding turns ledgerAfter
+turns-kept l [] k = k
+turns-kept l (offer ∷ rest) k = turns-kept (takeOf l (offer .bytes) (offer .room) .ledger) rest (step-kept l (offer .bytes) (offer .room) k)
+
+-- and after a whole run can be kept.
+pub run-kept : (l : Ledger) (records : List (List ℕ)) (room : ℕ) → Kept l → Kept (runOf l records room .ledger)
+run-kept l [] room k = rw (run-ends l room) k
+run-kept l (bytes ∷ rest) room k =
+    elim (ℕ-discrete (refusalOf l bytes room) 0) [
+      | yes e ↦ rw (run-goes-on l bytes rest room e) (run-kept (acceptedOf l bytes .ledger) rest (room - recordBytes) (accepted-kept l bytes room e))
+      | no e ↦ rw (run-stops l bytes rest room (refusalOf l bytes room) refl e) k
+    ]

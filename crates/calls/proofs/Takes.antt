@@ -11,12 +11,12 @@ use lib.ListN.{length, take, drop, take-append-drop, drop-of-length-le}
 use lib.Seq.{take-all, length-take-le}
 use Rattle.ledger.specs.Refusal.{refusalOf}
 use Rattle.ledger.specs.Take.{acceptedOf, takeOf, writtenOf, outputRecord}
-use Rattle.ledger.specs.History.{Run, runOf}
+use Rattle.run.specs.History.{Run, runOf}
 use Rattle.ledger.specs.declared.book.Ledger.{Ledger}
 use Rattle.ledger.specs.declared.answer.Answer.{Answer}
 use Rattle.ledger.proofs.Accepted.{accepted, has-room}
 use Rattle.ledger.proofs.Take.{taken, take-refusal, refused-writes-nothing}
-use Rattle.ledger.proofs.History.{run-stops, run-ends}
+use Rattle.run.proofs.History.{run-stops, run-ends}
 use Rattle.image.specs.Image.{imageBytes, noLedger, ledgerOf, imageOf, imaged}
 use Rattle.image.proofs.Laws.{image-fills}
 use Rattle.calls.specs.Calls.{answerBytes, roomOf, takeHere, takeImage, takeOut, runImage}

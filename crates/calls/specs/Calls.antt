@@ -6,7 +6,7 @@ use lib.Dec.{eqb, ltb}
 use lib.ListN.{length, getD, take, drop}
 use Rattle.numbers.specs.Bytes.{bytesOf, rowOf}
 use Rattle.ledger.specs.Take.{takeOf, outputRecord}
-use Rattle.ledger.specs.History.{Offer, Run, recordsOf, inTurn, runOf}
+use Rattle.run.specs.History.{Offer, Run, recordsOf, inTurn, runOf}
 use Rattle.ledger.specs.declared.answer.Answer.{Answer}
 use Rattle.image.specs.Image.{imageOf, ledgerOf}
 

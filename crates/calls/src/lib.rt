@@ -2,7 +2,7 @@
 // hand their buffers over to it: 'One step' of document 01, and its last paragraph.
 ghost use mathlib.Core.Path.{_≡_};
 ghost use lib.ListN.{length};
-ghost use Rattle.ledger.specs.History.{outOf};
+ghost use Rattle.run.specs.History.{outOf};
 ghost use Rattle.calls.specs.Calls.{answered, roomOf, takeHere, takeImage, takeOut, takeAnswer, runHere, runImage};
 use ledger::Answer;
 
@@ -54,7 +54,7 @@ pub fn run(image: &mut [u8], records: &[u8], out: &mut [u8], accepted: &mut u64)
     ensures { λ _. ⌜ now (out .exit) ≡ outOf (runHere (now (image .entry)) (now (records .entry)) (length (now (out .entry)))) (now (out .entry)) ⌝ }
     ensures { λ _. ⌜ now (accepted .exit) ≡ length (runHere (now (image .entry)) (now (records .entry)) (length (now (out .entry))) .accepted) ⌝ }
 {
-    let end = ledger::run(image::read(image), records, out);
+    let end = run::run(image::read(image), records, out);
     *accepted = end.accepted;
     if end.accepted > 0 {
         image::write(image, end.ledger);

@@ -9,7 +9,7 @@ use native.Mathlib.Decide.{ℕ-discrete}
 use lib.ListN.{length, getD, set, length-set, length-replicate}
 use lib.Seq.{getD-set-same, getD-set-other, ext-getD}
 use Rattle.decay.specs.Series.{entryOf, entriesFrom, tableOf}
-use Rattle.decay.specs.ByMonth.{perBillionth, scale, bracketOf, outwards, leftOf, filledTo}
+use Rattle.decay.specs.ByMonth.{perBillionth, scale, bracketOf, outwards, leftAfterMonth, filledTo}
 use Rattle.decay.proofs.Rule.{worked-passes, monthly-entry, entry-at, entries-size}
 
 pub outwards-next : (rate n left : ℕ) → 0 < n → outwards rate n left ≡ outwards rate (n - 1) (bracketOf rate n left)
@@ -27,8 +27,8 @@ quotient-within rate n left r h l =
     let less : left * rate ≤ scale * (12000 * n) = mul-le-mul l (omega arith) in
     div-le-of-le-mul (12000 * n) (omega (arith, less))
 
-pub worked-out : (rate : ℕ) → 1 ≤ rate → rate ≤ 400 → leftOf rate / perBillionth ≡ entryOf 2 rate
-worked-out rate low high = monthly-entry rate (leftOf rate / perBillionth) low high (worked-passes _ rate low high)
+pub worked-out : (rate : ℕ) → 1 ≤ rate → rate ≤ 400 → leftAfterMonth rate / perBillionth ≡ entryOf 2 rate
+worked-out rate low high = monthly-entry rate (leftAfterMonth rate / perBillionth) low high (worked-passes _ rate low high)
 
 -- A table filled to a place, whichever way the place is told; and with one entry more.
 pub same-place : {table : List ℕ} {j k : ℕ} → table ≡ filledTo j → j ≡ k → table ≡ filledTo k

@@ -6,7 +6,8 @@ use native.Mathlib.Omega.{arith}
 use lib.Dec.{eqb}
 use Rattle.numbers.specs.Fraction.{Fraction, over, whole, _⊗_, _≼_}
 use Rattle.numbers.proofs.Fraction.{at-most-trans, at-most-below, times-at-most}
-use Rattle.decay.specs.Series.{E, Encloses, StandsFor, isKind, exponent, entryOf}
+use Rattle.decay.specs.Series.{E, Encloses, StandsFor, exponent, entryOf}
+use Rattle.waste.specs.Kind.{isKind}
 use Rattle.decay.proofs.Rule.{one-answer, listed}
 use Rattle.decay.proofs.Series.{enclosed}
 

@@ -12,8 +12,9 @@ use lib.Ieee.Fits.{and-l, and-r}
 use lib.ListN.{length, getD, replicate, List·getD-eq-default}
 use Rattle.numbers.specs.Fraction.{Fraction, over, whole, _⊗_, _≼_, _≺_, total}
 use Rattle.numbers.proofs.Fraction.{at-most-trans, at-most-below, less-with, times-at-most}
-use Rattle.decay.specs.Series.{factorial, term, E, Encloses, roundedDown, isKind, exponent, entryOf, entriesFrom, tableOf, atRate}
-use Rattle.decay.specs.ByMonth.{perBillionth, bracketOf, outwards, leftOf}
+use Rattle.decay.specs.Series.{factorial, term, E, Encloses, roundedDown, exponent, entryOf, entriesFrom, tableOf, atRate}
+use Rattle.waste.specs.Kind.{isKind}
+use Rattle.decay.specs.ByMonth.{perBillionth, bracketOf, outwards, leftAfterMonth}
 use Rattle.decay.proofs.Series.{odd-term}
 use Rattle.decay.proofs.Sums.{alike, bottom-pos, summed, sum-is}
 use Rattle.decay.proofs.Every.{everyFrom, upTo, number-at}
@@ -104,15 +105,15 @@ yearly-passes : (h : 0 < 1000) (r : ℕ) → 1 ≤ r → r ≤ 400 → T (enclos
 unfolding passes? encloses? within? low? high? down factorial
 yearly-passes h = every-rate 1000 h (λ r. down r 1000 h) tt
 
-pub worked-passes : (h : 0 < 12000) (r : ℕ) → 1 ≤ r → r ≤ 400 → T (encloses? r 12000 h (leftOf r / perBillionth))
-unfolding passes? encloses? within? low? high? factorial leftOf outwards bracketOf
-worked-passes h = every-rate 12000 h (λ r. leftOf r / perBillionth) tt
+pub worked-passes : (h : 0 < 12000) (r : ℕ) → 1 ≤ r → r ≤ 400 → T (encloses? r 12000 h (leftAfterMonth r / perBillionth))
+unfolding passes? encloses? within? low? high? factorial leftAfterMonth outwards bracketOf
+worked-passes h = every-rate 12000 h (λ r. leftAfterMonth r / perBillionth) tt
 
 yearly : (r : ℕ) → 1 ≤ r → r ≤ 400 → Entry r 1000 (omega arith) (roundedDown (over r 1000 (omega arith)))
 yearly r low high = here r 1000 _ (down r 1000 _) (yearly-passes _ r low high)
 
 monthly : (r : ℕ) → 1 ≤ r → r ≤ 400 → Entry r 12000 (omega arith) (roundedDown (over r 12000 (omega arith)))
-monthly r low high = here r 12000 _ (leftOf r / perBillionth) (worked-passes _ r low high)
+monthly r low high = here r 12000 _ (leftAfterMonth r / perBillionth) (worked-passes _ r low high)
 
 -- What is known of every entry, once over the kind.
 pub record Listed (kind rate D : ℕ) : Type 0 where

@@ -26,8 +26,8 @@ outwards rate (suc n) left = outwards rate n (bracketOf rate (suc n) left)
 abbrev pub terms : ℕ
 terms = 5
 
-unfoldable pub leftOf : ℕ → ℕ
-leftOf rate = outwards rate terms scale
+unfoldable pub leftAfterMonth : ℕ → ℕ
+leftAfterMonth rate = outwards rate terms scale
 
 -- A table by month as it is filled in: the entries of the rates 1 to k, and 0 for the others as yet.
 unfoldable pub filledTo : ℕ → List ℕ

@@ -1,5 +1,5 @@
 -- Document 01, 'The decay table': the series, the enclosure rule and the entries.
-use mathlib.Core.Bool.{Bool, cond, _&&_, _||_}
+use mathlib.Core.Bool.{cond, _&&_}
 use mathlib.Core.List.{List, [], _∷_}
 use Prim.Native.Nat.{ℕ, zero, suc, _+_, _*_, _^_, _<_}
 use native.Mathlib.Nat.{mul-pos}
@@ -7,6 +7,7 @@ use native.Mathlib.Omega.{arith}
 use lib.Dec.{leb, eqb}
 use lib.ListN.{getD}
 use Rattle.numbers.specs.Fraction.{Fraction, over, whole, negative, floor, _⊗_, _≼_, _≺_, power, total}
+use Rattle.waste.specs.Kind.{yearly, isKind}
 
 -- i!
 unfoldable pub factorial : ℕ → ℕ
@@ -40,13 +41,9 @@ pub record StandsFor (D : ℕ) (d : Fraction) : Type 0 where
 unfoldable pub roundedDown : Fraction → ℕ
 roundedDown x = floor (whole (10 ^ 9) ⊗ E x 15)
 
--- The kinds: 1 yearly, 2 monthly.
-abbrev pub isKind : ℕ → Bool
-isKind kind = eqb kind 1 || eqb kind 2
-
 -- x for a rate r in thousandths: r/1000 (year) or r/12000 (month).
 abbrev pub exponent : (kind r : ℕ) → Fraction
-exponent kind r = cond (eqb kind 1) (over r 1000 (omega arith)) (over r 12000 (omega arith))
+exponent kind r = cond (eqb kind yearly) (over r 1000 (omega arith)) (over r 12000 (omega arith))
 
 -- The table has every rate from 1 to 400, by year and by month; asked for any other rate or kind, the look-up answers 0.
 unfoldable pub entryOf : (kind rate : ℕ) → ℕ

@@ -6,22 +6,17 @@ mod table;
 pub use table::at_rate;
 pub use table::table_of;
 ghost use mathlib.Core.Path.{_≡_};
-ghost use Rattle.decay.specs.Series.{isKind, entryOf};
+ghost use Rattle.decay.specs.Series.{entryOf};
 
-// Tells whether a number is a kind's: 1 yearly, 2 monthly.
-pub fn is_kind(kind: u8) -> bool
-    ensures { λ r. ⌜ r ≡ isKind kind ⌝ }
-{
-    (kind == 1) | (kind == 2)
-}
-
-// Answers the entry of a rate in thousandths, kind 1 by year and 2 by month, and 0 for any other rate or kind.
+// Answers the entry of a rate in thousandths, by year or by month, and 0 for any other rate or kind.
 pub fn entry(kind: u8, rate: u16) -> u32
     ensures { λ r. ⌜ r ≡ entryOf kind rate ⌝ }
 {
-    match kind {
-        1 => table::yearly(rate),
-        2 => month::monthly(rate),
-        _ => 0,
+    if kind == waste::YEARLY {
+        return table::yearly(rate);
     }
+    if kind == waste::MONTHLY {
+        return month::monthly(rate);
+    }
+    0
 }

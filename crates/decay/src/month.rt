@@ -2,7 +2,7 @@
 ghost use mathlib.Core.Path.{_≡_};
 ghost use Prim.Native.Nat.{_+_, _≤_, _<_};
 ghost use Rattle.decay.specs.Series.{entryOf, tableOf};
-ghost use Rattle.decay.specs.ByMonth.{scale, bracketOf, terms, leftOf, filledTo};
+ghost use Rattle.decay.specs.ByMonth.{scale, bracketOf, terms, leftAfterMonth, filledTo};
 
 // The whole, as a number of which a billionth is still wide.
 const PER_BILLIONTH: u64 = 10_000_000;
@@ -25,7 +25,7 @@ fn bracket(rate: u64, n: u64, left: u64) -> u64
 // Answers what a month leaves of the whole.
 fn left_after_a_month(rate: u64) -> u64
     requires { ⌜ rate ≤ 400 ⌝ }
-    ensures { λ r. ⌜ r ≡ leftOf rate ⌝ }
+    ensures { λ r. ⌜ r ≡ leftAfterMonth rate ⌝ }
 {
     let mut left = SCALE;
     let mut n = TERMS;

@@ -417,10 +417,10 @@ fn yearly_table() -> [u32; 400]
 pub fn table_of(kind: u8) -> [u32; 400]
     ensures { λ r. ⌜ r ≡ tableOf kind ⌝ }
 {
-    if kind == 1 {
+    if kind == waste::YEARLY {
         return yearly_table();
     }
-    if kind == 2 {
+    if kind == waste::MONTHLY {
         return monthly_table();
     }
     [0; 400]

@@ -11,7 +11,7 @@ use lib.Ieee.{Float, nan, inf, fin, binary64, odd, ofFields, ofBits}
 use lib.Ieee.Exact.{HasValue, odd-sign}
 use borrow.Author.Tests.{ne-eqb, le-leb, lt-leb, leb-true, leb-false}
 use Rattle.door.specs.Cell.{wholeOf, refused, accepted, answerToNumber}
-use Rattle.door.specs.declared.Numbers.{Numbers}
+use Rattle.door.specs.declared.cell.Numbers.{Numbers}
 use Rattle.door.proofs.Whole.{is-whole, has-fraction, above-limit}
 
 scaled : (v : Float) (s : Bool) (a c k : ℕ) → 0 < k → HasValue v s (a * k) (c * k) → HasValue v s a c

@@ -1,3 +1,4 @@
 pub mod Whole
 pub mod Bits
-pub mod Laws
+pub mod Cells
+pub mod Points

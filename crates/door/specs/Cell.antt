@@ -5,11 +5,11 @@ use lib.Dec.{leb, eqb}
 use lib.IntN.{ℤ, pos, negsuc, negℤ}
 use lib.Ieee.{Float, nan, inf, fin, up, down}
 use Rattle.waste.specs.Waste.{massLimit}
-use Rattle.door.specs.declared.Cell.{Cell}
-use Rattle.door.specs.declared.Cell.the-variants.{Empty, Number}
-use Rattle.door.specs.declared.Numbers.{Numbers}
-use Rattle.door.specs.declared.Weighed.{Weighed}
-use Rattle.door.specs.declared.Weighed.the-variants.{Mass, EmptyCell, NotWhole, OutOfRange}
+use Rattle.door.specs.declared.cell.Cell.{Cell}
+use Rattle.door.specs.declared.cell.Cell.the-variants.{Empty, Number}
+use Rattle.door.specs.declared.cell.Numbers.{Numbers}
+use Rattle.door.specs.declared.cell.Weighed.{Weighed}
+use Rattle.door.specs.declared.cell.Weighed.the-variants.{Mass, EmptyCell, NotWhole, OutOfRange}
 
 -- A refused cell gives mass 0.
 abbrev pub refused : ℕ → Numbers

@@ -3,9 +3,9 @@ use mathlib.Core.Bool.{Bool, true, false, cond, not}
 use Prim.Native.Nat.{ℕ, zero, suc, _+_, _-_, _*_, _/_, _%_, _^_, compare}
 use lib.Dec.{T, leb, ltb}
 use lib.Ieee.{Float, Format, prec, emax, low, binary64, size, nearest, isNan, ofInt, round, units, odd, inf}
-use Rattle.chart.specs.Point.{exact, floatOf, pointOf, chartedOf}
-use Rattle.chart.specs.declared.Charted.{Charted}
-use Rattle.chart.specs.declared.Point.{Point}
+use Rattle.door.specs.Point.{exact, floatOf, pointOf, chartedOf}
+use Rattle.door.specs.declared.point.Charted.{Charted}
+use Rattle.door.specs.declared.point.Point.{Point}
 
 abbrev pub IsNumber : Float → Type 0
 IsNumber x = T (not (isNan x))

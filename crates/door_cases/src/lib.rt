@@ -48,7 +48,7 @@ pub fn cell(payload: &[u8])
 
 // Prints the point of a figure and its bound.
 fn charted(figure: u64, bound: u64) {
-    let answer = chart::chart(figure, bound);
+    let answer = door::chart(figure, bound);
     let point = answer.point;
     print::number(answer.refusal as u64, b' ');
     print::bits(f64::to_bits(point.figure), b' ');

@@ -1,11 +1,14 @@
 // From the releases of a record to its figure and bound: the chain of factors of 'One step' of document 01.
 // The ledger calls it, with the factors as a value.
-ghost use mathlib.Core.Bool.{cond};
+ghost use mathlib.Core.Bool.{true};
 ghost use mathlib.Core.Path.{_≡_};
-ghost use Prim.Native.Nat.{_+_, _-_, _*_, _/_, _^_, _≤_};
+ghost use Prim.Native.Nat.{ℕ, _+_, _-_, _*_, _/_, _^_, _≤_, _<_};
 ghost use lib.ListN.{getD};
+ghost use Rattle.record.specs.Fields.{factorsOf};
 ghost use Rattle.record.specs.Ranges.{inRange};
-ghost use Rattle.figure.specs.Figure.{figureOf, marginOf, BOf, boundOf};
+ghost use Rattle.carbon.specs.Carbon.{mostBrought};
+ghost use Rattle.figure.specs.Figure.{figureOf, marginOf, BOf, boundOf, filedOf};
+use output::Output;
 use record::Factors;
 
 // Answers x1: x0 after the correction factor (percent) and the capture (hundredths of a percent).
@@ -35,13 +38,11 @@ fn grams(x: u64, potential: u8) -> u64
     numbers::mul_div(x, 4 * potential as u64, 3000)
 }
 
-// Answers the figure of a record whose releases add up to x0, in grams CO2e; factors that are out of range give 0.
+// Answers the figure of a record whose releases add up to x0, in grams CO2e.
 pub fn figure(factors: Factors, x0: u64) -> u64
-    ensures { λ r. ⌜ r ≡ cond (inRange factors) (figureOf factors x0) 0 ⌝ }
+    requires { ⌜ inRange factors ≡ true ⌝ }
+    ensures { λ r. ⌜ r ≡ figureOf factors x0 ⌝ }
 {
-    if !factors.is_in_range() {
-        return 0;
-    }
     let x1 = kept(x0, factors.factor, factors.captured);
     let correction = waste::correction(factors.class) as u64;
     let x2 = methane(
@@ -80,4 +81,23 @@ pub fn bound(factors: Factors, margins: u64) -> u64
     ensures { λ r. ⌜ r ≡ boundOf factors margins ⌝ }
 {
     3 + grams(margins, factors.potential)
+}
+
+// Answers what the output record of record n says, given its bytes, its x0, and T and R of the eight types after it.
+pub fn filed(n: u16, bytes: &[u8], x0: u64, brought: [u64; 8], stock: [u64; 8]) -> Output
+    requires { ⌜ inRange (factorsOf (now bytes)) ≡ true ⌝ }
+    requires { ⌜ ((t : ℕ) → (t < 8 → (getD brought t 0 ≤ mostBrought) × (getD stock t 0 ≤ mostBrought))) ⌝ }
+    ensures { λ r. ⌜ r ≡ filedOf n (now (bytes .entry)) x0 (λ t. getD brought t 0) (λ t. getD stock t 0) ⌝ }
+{
+    let factors = Factors::of(bytes);
+    Output {
+        period: n,
+        kind: record::kind(bytes),
+        climate: record::climate(bytes),
+        x0,
+        figure: figure(factors, x0),
+        bound: bound(factors, margins(n, brought)),
+        stock: carbon::total(stock),
+        brought: carbon::total(brought),
+    }
 }

@@ -2,27 +2,26 @@
 use mathlib.Core.Path.{_≡_, refl, sym, ap, _∙_}
 use mathlib.Core.Bool.{Bool, true, false}
 use mathlib.Core.List.{List, [], _∷_}
-use Prim.Native.Nat.{ℕ, _+_, _-_, _*_, _^_, _<_}
+use Prim.Native.Nat.{ℕ, _+_, _*_, _^_, _<_}
 use native.Mathlib.Decide.{ℕ-discrete}
 use native.Mathlib.Omega.{arith}
+use borrow.Author.Tests.{eq-eqb}
 use lib.Dec.{eqb, lit<}
-use lib.ListN.{length}
+use lib.ListN.{length, replicate}
 use Rattle.numbers.specs.Bytes.{numberAt, bytesOf}
 use Rattle.numbers.specs.Eight.{eight}
 use Rattle.numbers.proofs.Bytes.{read-back}
 use Rattle.numbers.proofs.Eight.{eight-at}
-use Rattle.record.specs.Fields.{recordBytes}
-use Rattle.year.proofs.Laws.{captured-most}
-use Rattle.ledger.specs.Stock.{fresh, broughtAt, stockAt, releasedAt, after}
+use Rattle.year_factors.specs.YearFactors.{noYear}
+use Rattle.year_factors.proofs.Laws.{captured-most}
+use Rattle.ledger.specs.Step.{fresh, broughtAt, stockAt, releasedAt, after}
 use Rattle.ledger.specs.Refusal.{sound, refusalOf}
 use Rattle.ledger.specs.Take.{acceptedOf, takeOf}
-use Rattle.ledger.specs.History.{Offer, turns, ledgerAfter, runOf}
 use Rattle.ledger.specs.declared.book.Ledger.{Ledger}
 use Rattle.ledger.proofs.Sound.{sound-is}
 use Rattle.ledger.proofs.Accepted.{accepted, fresh-sound, accepted-sound}
 use Rattle.ledger.proofs.Take.{taken, refused-keeps}
-use Rattle.ledger.proofs.History.{run-goes-on, run-stops, run-ends}
-use Rattle.image.specs.Image.{imageBytes, imageOf, saidBy, noLedger, ledgerOf, Kept}
+use Rattle.image.specs.Image.{imageBytes, imageOf, freshLeft, saidBy, noLedger, ledgerOf, Kept}
 
 -- Eight numbers are read back from their bytes.
 row-back : (f : ℕ → ℕ) → ((t : ℕ) → t < 8 → f t < 2 ^ 64) → eight (λ t. numberAt 8 (bytesOf 8 (f t)) 0) ≡ eight f
@@ -79,6 +78,15 @@ pub fresh-kept : Kept fresh
 unfolding fresh
 fresh-kept = record { is-sound = fresh-sound; brought = refl; stock = refl; released = refl }
 
+-- The image of a fresh ledger is all zero.
+pub fresh-zeros : imageOf fresh ≡ replicate imageBytes 0
+unfolding imageOf fresh noYear
+fresh-zeros = refl
+
+pub fresh-keeps : (image : List ℕ) → length image ≡ imageBytes → freshLeft image ≡ imageOf fresh
+unfolding freshLeft
+fresh-keeps image e = simp (eq-eqb (length image) imageBytes e) (sym fresh-zeros)
+
 -- A sound ledger that bytes say can be kept.
 pub said-kept : (image : List ℕ) → sound (ledgerOf image) ≡ true → Kept (ledgerOf image)
 unfolding ledgerOf saidBy noLedger
@@ -94,25 +102,10 @@ unfolding acceptedOf after
 accepted-kept l bytes room e =
     record { is-sound = accepted-sound l bytes (accepted l bytes room e); brought = refl; stock = refl; released = refl }
 
--- so the ledger after any record,
+-- and so the ledger after any record, can be kept.
 pub step-kept : (l : Ledger) (bytes : List ℕ) (room : ℕ) → Kept l → Kept (takeOf l bytes room .ledger)
 step-kept l bytes room k =
     elim (ℕ-discrete (refusalOf l bytes room) 0) [
       | yes e ↦ rw (taken l bytes room e) (accepted-kept l bytes room e)
       | no e ↦ rw (refused-keeps l bytes room e) k
-    ]
-
--- after some turns,
-pub turns-kept : (l : Ledger) (offers : List Offer) → Kept l → Kept (ledgerAfter l (turns l offers))
-unfolding turns ledgerAfter
-turns-kept l [] k = k
-turns-kept l (offer ∷ rest) k = turns-kept (takeOf l (offer .bytes) (offer .room) .ledger) rest (step-kept l (offer .bytes) (offer .room) k)
-
--- and after a whole run can be kept.
-pub run-kept : (l : Ledger) (records : List (List ℕ)) (room : ℕ) → Kept l → Kept (runOf l records room .ledger)
-run-kept l [] room k = rw (run-ends l room) k
-run-kept l (bytes ∷ rest) room k =
-    elim (ℕ-discrete (refusalOf l bytes room) 0) [
-      | yes e ↦ rw (run-goes-on l bytes rest room e) (run-kept (acceptedOf l bytes .ledger) rest (room - recordBytes) (accepted-kept l bytes room e))
-      | no e ↦ rw (run-stops l bytes rest room (refusalOf l bytes room) refl e) k
     ]

@@ -4,11 +4,11 @@ use mathlib.Core.Bool.{true, cond}
 use mathlib.Core.List.{List, [], _∷_, _++_}
 use Prim.Native.Nat.{ℕ, _+_, _*_}
 use lib.Dec.{eqb}
-use lib.ListN.{length, getD}
+use lib.ListN.{length, getD, replicate}
 use Rattle.numbers.specs.Bytes.{numberAt, bytesOf, rowOf}
 use Rattle.numbers.specs.Eight.{eight}
-use Rattle.year.specs.Year.{noYear}
-use Rattle.ledger.specs.Stock.{broughtAt, stockAt, releasedAt}
+use Rattle.year_factors.specs.YearFactors.{noYear}
+use Rattle.ledger.specs.Step.{broughtAt, stockAt, releasedAt}
 use Rattle.ledger.specs.Refusal.{sound}
 use Rattle.ledger.specs.declared.book.Ledger.{Ledger}
 
@@ -27,6 +27,10 @@ imageOf l = frontOf l ++ rowOf (broughtAt l) 8 ++ rowOf (stockAt l) 8 ++ rowOf (
 -- The image is written over 200 bytes; any other buffer keeps its bytes.
 unfoldable pub imaged : Ledger → List ℕ → List ℕ
 imaged l out = cond (eqb (length out) imageBytes) (imageOf l) out
+
+-- The image of a fresh ledger is all zero; a buffer of another length keeps its bytes.
+unfoldable pub freshLeft : List ℕ → List ℕ
+freshLeft out = cond (eqb (length out) imageBytes) (replicate imageBytes 0) out
 
 -- The ledger that 200 bytes say.
 unfoldable pub saidBy : List ℕ → Ledger

@@ -6,7 +6,7 @@ ghost use lib.ListN.{length};
 ghost use lib.Seq.{sets};
 ghost use Rattle.image.specs.Image.{frontOf, ledgerOf, imaged};
 use ledger::Ledger;
-use year::Year;
+use year_factors::YearFactors;
 
 // The bytes of an image.
 pub const BYTES: usize = 200;
@@ -24,7 +24,7 @@ pub fn read(bytes: &[u8]) -> Ledger
         n: numbers::read_u16(bytes, 0) as u16,
         kind: bytes[2],
         climate: bytes[3],
-        year: Year {
+        year: YearFactors {
             factor: bytes[4],
             captured: numbers::read_u16(bytes, 6) as u16,
             class: bytes[5],

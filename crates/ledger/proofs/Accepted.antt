@@ -11,22 +11,21 @@ use Rattle.numbers.specs.Eight.{everyOf}
 use Rattle.numbers.specs.Fault.{firstOf, ahead}
 use Rattle.numbers.proofs.Eight.{both-true, all-true, every-at, eight-at}
 use Rattle.numbers.proofs.Fault.{isBad, clear, parted}
-use Rattle.decay.specs.Series.{isKind}
+use Rattle.waste.specs.Kind.{isKind}
 use Rattle.waste.specs.Waste.{carbonOf, isClimate, isClass}
 use Rattle.record.specs.Fields.{recordBytes, periodOf, kindOf, climateOf, classOf, factorsOf}
 use Rattle.record.specs.Ranges.{codes, coded, inRange, dryInRange, light}
 use Rattle.record.proofs.Laws.{deposit-within}
-use Rattle.stock.specs.Stock.{mostRecords, mostBrought, entryAt, ceilingOf}
-use Rattle.stock.proofs.Laws.{entry-small}
-use Rattle.year.specs.Year.{noYear, shares, soundYear}
-use Rattle.year.proofs.Laws.{year-stays}
-use Rattle.ledger.specs.Stock.{fresh, newBrought, held, newStock, release, newReleased, after}
+use Rattle.carbon.specs.Carbon.{mostRecords, mostBrought, entryAt, ceilingOf}
+use Rattle.carbon.proofs.Laws.{entry-small, left-most}
+use Rattle.year_factors.specs.YearFactors.{noYear, shares, soundYear}
+use Rattle.year_factors.proofs.Laws.{year-stays}
+use Rattle.ledger.specs.Step.{fresh, newBrought, held, newStock, release, newReleased, after}
 use Rattle.refusal.specs.Refusal.{continues, faultsOf}
 use Rattle.ledger.specs.Refusal.{sound, allZero, emptyAt, refusalOf}
 use Rattle.ledger.specs.Take.{acceptedOf}
 use Rattle.ledger.specs.declared.book.Ledger.{Ledger}
 use Rattle.ledger.proofs.Sound.{Sound, sound-is, is-sound}
-use Rattle.ledger.proofs.Step.{left-most}
 
 module _ (l : Ledger) (bytes : List ℕ) (room : ℕ) (e : refusalOf l bytes room ≡ 0) where
   -- The fault with a number is not there.

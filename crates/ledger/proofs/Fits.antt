@@ -7,8 +7,8 @@ use Rattle.numbers.proofs.Eight.{sum-most}
 use Rattle.record.specs.Fields.{factorsOf}
 use Rattle.figure.proofs.Laws.{figure-most, bound-small}
 use Rattle.output.proofs.Laws.{Fits, Says, says}
-use Rattle.stock.specs.Stock.{mostBrought}
-use Rattle.ledger.specs.Stock.{broughtAt, stockAt, release, after, x0Of}
+use Rattle.carbon.specs.Carbon.{mostBrought}
+use Rattle.ledger.specs.Step.{broughtAt, stockAt, release, after, x0Of}
 use Rattle.ledger.specs.Take.{acceptedOf, totalStock, outputRecord, outputFields}
 use Rattle.ledger.specs.declared.book.Ledger.{Ledger}
 use Rattle.ledger.proofs.Sound.{sound-is}

@@ -3,7 +3,4 @@ pub mod Step
 pub mod Accepted
 pub mod Settle
 pub mod Take
-pub mod History
-pub mod MidRun
 pub mod Fits
-pub mod OneRecord

@@ -5,8 +5,9 @@ use Prim.Native.Nat.{ℕ, _+_, _-_, _*_, _≤_}
 use native.Mathlib.Nat.{zero-add, add-zero, add-assoc}
 use native.Mathlib.Omega.{arith}
 use Rattle.record.specs.Fields.{kindOf, climateOf, depositOf}
-use Rattle.stock.specs.Stock.{entryAt, mostBrought}
-use Rattle.ledger.specs.Stock.{broughtAt, stockAt, leftOf, newBrought, held, newStock, release, decayedAt, x0Of, periodOfAll}
+use Rattle.carbon.specs.Carbon.{entryAt, mostBrought}
+use Rattle.carbon.specs.Carbon.{leftOf}
+use Rattle.ledger.specs.Step.{broughtAt, stockAt, newBrought, held, newStock, release, decayedAt, x0Of, periodOfAll}
 use Rattle.ledger.specs.declared.book.Ledger.{Ledger}
 use Rattle.ledger.specs.declared.period.Decayed.{Decayed}
 use Rattle.ledger.proofs.Accepted.{NoneAt}

@@ -9,12 +9,12 @@ use borrow.Author.Tests.{eq-eqb, ne-eqb, le-leb, leb-true, eqb-true}
 use lib.Dec.{eqb, leb, leb·suc-zero, eqb·suc-zero}
 use Rattle.numbers.specs.Eight.{eight, everyOf}
 use Rattle.numbers.proofs.Eight.{both-true, three-true, every-at, every-each, every-same, eight-same}
-use Rattle.decay.specs.Series.{isKind}
+use Rattle.waste.specs.Kind.{isKind}
 use Rattle.waste.specs.Waste.{isClimate}
-use Rattle.stock.specs.Stock.{mostRecords, mostBrought, ceilingOf, withinOf}
-use Rattle.stock.proofs.Laws.{ceiling-most}
-use Rattle.year.specs.Year.{soundYear}
-use Rattle.ledger.specs.Stock.{broughtAt, stockAt, releasedAt}
+use Rattle.carbon.specs.Carbon.{mostRecords, mostBrought, ceilingOf, withinOf}
+use Rattle.carbon.proofs.Laws.{ceiling-most}
+use Rattle.year_factors.specs.YearFactors.{soundYear}
+use Rattle.ledger.specs.Step.{broughtAt, stockAt, releasedAt}
 use Rattle.ledger.specs.Refusal.{sound, blank, inCode, allZero, inOrder, emptyAt, withinAt}
 use Rattle.ledger.specs.declared.book.Ledger.{Ledger}
 

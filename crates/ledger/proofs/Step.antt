@@ -2,22 +2,17 @@
 use mathlib.Core.Path.{_≡_}
 use mathlib.Core.List.{List}
 use Prim.Native.Nat.{ℕ, _+_, _-_, _^_, _≤_, _<_}
-use native.Mathlib.Nat.{mul-le-mul-left}
 use native.Mathlib.Omega.{arith}
 use lib.ListN.{getD}
 use Rattle.numbers.specs.Eight.{eight}
 use Rattle.numbers.proofs.Eight.{eight-at, eight-same}
 use Rattle.record.specs.Fields.{kindOf, climateOf, depositOf}
-use Rattle.stock.specs.Stock.{entryAt}
-use Rattle.ledger.specs.Stock.{leftOf, broughtAt, stockAt, releasedAt, newBrought, held, newStock, release, newReleased, after}
-use Rattle.stock.proofs.Laws.{entry-small}
+use Rattle.carbon.specs.Carbon.{entryAt}
+use Rattle.carbon.specs.Carbon.{leftOf}
+use Rattle.ledger.specs.Step.{broughtAt, stockAt, releasedAt, newBrought, held, newStock, release, newReleased, after}
+use Rattle.carbon.proofs.Laws.{entry-small, left-most}
 use Rattle.ledger.specs.Take.{acceptedOf}
 use Rattle.ledger.specs.declared.book.Ledger.{Ledger}
-
--- What is left is at most what was held.
-pub left-most : (H D : ℕ) → D < 10 ^ 9 → leftOf H D ≤ H
-unfolding leftOf
-left-most H D h = omega (arith, mul-le-mul-left H h)
 
 module _ (l : Ledger) (bytes : List ℕ) (t : ℕ) (place : t < 8) where
   pub brought-after : broughtAt (after l bytes) t ≡ broughtAt l t + depositOf bytes t

@@ -5,7 +5,7 @@ use Prim.Native.Nat.{ℕ, _+_}
 use native.Mathlib.Decide.{ℕ-discrete}
 use borrow.Author.Tests.{ne-eqb}
 use lib.ListN.{length}
-use Rattle.ledger.specs.Stock.{after}
+use Rattle.ledger.specs.Step.{after}
 use Rattle.ledger.specs.Refusal.{refusalOf}
 use Rattle.output.specs.Output.{outputOf}
 use Rattle.ledger.specs.Take.{acceptedOf, refusedOf, takeOf, writtenOf, outputFields, outputRecord}

@@ -1,4 +1,3 @@
-pub mod Stock
+pub mod Step
 pub mod Refusal
 pub mod Take
-pub mod History

@@ -5,12 +5,12 @@ use Prim.Native.Nat.{ℕ}
 use lib.Dec.{eqb, leb}
 use Rattle.numbers.specs.Eight.{everyOf}
 use Rattle.numbers.specs.Fault.{firstOf}
-use Rattle.decay.specs.Series.{isKind}
+use Rattle.waste.specs.Kind.{isKind}
 use Rattle.waste.specs.Waste.{isClimate}
-use Rattle.stock.specs.Stock.{mostRecords, withinOf}
-use Rattle.year.specs.Year.{soundYear}
+use Rattle.carbon.specs.Carbon.{mostRecords, withinOf}
+use Rattle.year_factors.specs.YearFactors.{soundYear}
 use Rattle.refusal.specs.Refusal.{faultsOf}
-use Rattle.ledger.specs.Stock.{broughtAt, stockAt, releasedAt}
+use Rattle.ledger.specs.Step.{broughtAt, stockAt, releasedAt}
 use Rattle.ledger.specs.declared.book.Ledger.{Ledger}
 
 -- A ledger with n = 0 has every other field 0.

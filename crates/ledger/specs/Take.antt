@@ -9,10 +9,11 @@ use Rattle.record.specs.Fields.{recordBytes, factorsOf}
 use Rattle.figure.specs.Figure.{figureOf, BOf, boundOf}
 use Rattle.output.specs.Output.{outputOf}
 use Rattle.output.specs.declared.Output.{Output}
-use Rattle.ledger.specs.Stock.{broughtAt, stockAt, releasedAt, release, x0Of, after}
+use Rattle.ledger.specs.Step.{broughtAt, stockAt, releasedAt, release, x0Of, after}
 use Rattle.ledger.specs.Refusal.{refusalOf, sound}
 use Rattle.ledger.specs.declared.book.Ledger.{Ledger}
 use Rattle.ledger.specs.declared.answer.Answer.{Answer}
+use Rattle.ledger.specs.declared.answer.Entered.{Entered}
 use Rattle.ledger.specs.declared.answer.Totals.{Totals}
 
 -- Accepted: the ledger after the record, the eight releases, x0, figure and bound, with n and T as they stand after the record.
@@ -58,6 +59,10 @@ outputFields a =
       stock = totalStock (a .ledger);
       brought = totalBrought (a .ledger);
     }
+
+-- An accepted record entered: the ledger after it, and what its output record says.
+unfoldable pub enteredOf : Answer → Entered
+enteredOf a = record { ledger = a .ledger; says = outputFields a }
 
 unfoldable pub outputRecord : Answer → List ℕ
 outputRecord a = outputOf (outputFields a)

@@ -1,5 +1,6 @@
-// What a step, a run and the totals answer.
+// What a step and the totals answer.
 use crate::book::Ledger;
+use output::Output;
 
 // The ledger that comes back, the refusal (0 if none), and of an accepted record the eight releases in mg, their sum x0 in mg,
 // the figure and its bound in grams CO2e.
@@ -12,11 +13,10 @@ pub struct Answer {
     pub bound: u64,
 }
 
-// The ledger after the last accepted record, how many records were accepted, and the refusal of the next one, 0 if none.
-pub struct Outcome {
+// The ledger after an accepted record, and what its output record says.
+pub struct Entered {
     pub ledger: Ledger,
-    pub accepted: u64,
-    pub refusal: u8,
+    pub says: Output,
 }
 
 // The refusal (3 for an unsound ledger, else 0), and the carbon left, brought in and released so far over all types, in mg.

@@ -1,26 +1,22 @@
 // The ledger, from value to value.
-ghost use mathlib.Core.Bool.{true, cond};
+ghost use mathlib.Core.Bool.{cond};
 ghost use mathlib.Core.List.{_++_};
 ghost use mathlib.Core.Path.{_≡_};
 ghost use Prim.Native.Nat.{_<_};
 ghost use lib.Dec.{eqb};
 ghost use lib.ListN.{length, drop};
 ghost use Rattle.numbers.specs.Eight.{eight};
-ghost use Rattle.record.specs.Fields.{kindOf, climateOf};
-ghost use Rattle.stock.specs.Stock.{entryAt};
-ghost use Rattle.ledger.specs.Stock.{fresh, releasedAt, decayedAt, periodOfAll};
+ghost use Rattle.record.specs.Fields.{recordBytes, kindOf, climateOf};
+ghost use Rattle.carbon.specs.Carbon.{entryAt};
+ghost use Rattle.ledger.specs.Step.{fresh, decayedAt, periodOfAll};
 ghost use Rattle.ledger.specs.Refusal.{blank, inCode, sound, refusalOf};
-ghost use Rattle.ledger.specs.Take.{acceptedOf, refusedOf, outputRecord, takeOf, writtenOf, totalsOf};
+ghost use Rattle.ledger.specs.Take.{acceptedOf, refusedOf, enteredOf, outputRecord, takeOf, writtenOf, totalsOf};
 use crate::answer::Answer;
+use crate::answer::Entered;
 use crate::answer::Totals;
-use crate::file;
 use crate::period::Decayed;
 use crate::period::Period;
-use crate::period::left;
-use crate::period::less;
-use output::Output;
-use record::Factors;
-use year::Year;
+use year_factors::YearFactors;
 
 // One site's ledger: the number n of accepted records, their kind and climate, what a monthly one remembers of its year, and for each
 // type the carbon brought in (T), the carbon left (R) and the carbon released so far, in whole milligrams. Place 0 of a list is type 1.
@@ -28,7 +24,7 @@ pub struct Ledger {
     pub n: u16,
     pub kind: u8,
     pub climate: u8,
-    pub year: Year,
+    pub year: YearFactors,
     pub brought: [u64; 8],
     pub stock: [u64; 8],
     pub released: [u64; 8],
@@ -36,7 +32,7 @@ pub struct Ledger {
 
 impl Ledger {
     // The most records that a ledger takes.
-    pub const RECORDS: u16 = stock::RECORDS;
+    pub const RECORDS: u16 = carbon::RECORDS;
     // The bytes of a record, and of an output record.
     pub const BYTES: usize = record::BYTES;
     // The largest mass of one type in one record, in kilograms.
@@ -50,7 +46,7 @@ impl Ledger {
             n: 0,
             kind: 0,
             climate: 0,
-            year: Year::none(),
+            year: YearFactors::none(),
             brought: [0; 8],
             stock: [0; 8],
             released: [0; 8],
@@ -64,7 +60,7 @@ impl Ledger {
         if self.n == 0 {
             return (self.kind == 0) & (self.climate == 0);
         }
-        decay::is_kind(self.kind) & waste::is_climate(self.climate)
+        waste::is_kind(self.kind) & waste::is_climate(self.climate)
     }
 
     // Tells whether the ledger is sound.
@@ -75,18 +71,18 @@ impl Ledger {
         let left = self.stock;
         let released = self.released;
         let year = self.year.is_sound(self.n, self.kind);
-        self.is_coded() & stock::are_within(self.n, brought, left, released) & year
+        self.is_coded() & carbon::are_within(self.n, brought, left, released) & year
     }
 
     // Decays one type: answers what place t has after an accepted record, given the table entries of its kind and climate.
     fn decay(self, entries: [u32; 8], bytes: &[u8], t: usize) -> Decayed
-        requires { ⌜ (refusalOf self (now bytes) 48 ≡ 0) × (t < 8) ⌝ }
+        requires { ⌜ (refusalOf self (now bytes) recordBytes ≡ 0) × (t < 8) ⌝ }
         requires { ⌜ entries ≡ eight (entryAt (kindOf (now bytes)) (climateOf (now bytes))) ⌝ }
         ensures { λ r. ⌜ r ≡ decayedAt self (now (bytes .entry)) t ⌝ }
     {
         let deposit = record::deposit(bytes, t as u8);
         let held = self.stock[t] + deposit;
-        let left = left(held, entries[t]);
+        let left = carbon::left(held, entries[t]);
         Decayed {
             brought: self.brought[t] + deposit,
             stock: left,
@@ -97,7 +93,7 @@ impl Ledger {
     // Decays every type but inert waste, which has no carbon; each place is written out, so that no copy of the ledger is made for
     // one known only at run time.
     fn decay_all(self, entries: [u32; 8], bytes: &[u8]) -> Period
-        requires { ⌜ refusalOf self (now bytes) 48 ≡ 0 ⌝ }
+        requires { ⌜ refusalOf self (now bytes) recordBytes ≡ 0 ⌝ }
         requires { ⌜ entries ≡ eight (entryAt (kindOf (now bytes)) (climateOf (now bytes))) ⌝ }
         ensures { λ r. ⌜ r ≡ periodOfAll self (now (bytes .entry)) ⌝ }
     {
@@ -135,69 +131,32 @@ impl Ledger {
         }
     }
 
-    // Enters an accepted record: answers the ledger after it, and writes its output record at the start of the output. With the
-    // record's release added, what was released is again all that is gone of T.
-    pub(crate) fn enter(self, entries: [u32; 8], bytes: &[u8], out: &mut [u8]) -> Ledger
+    // Enters an accepted record: answers the ledger after it and what its output record says, and writes that at the start of the
+    // output. With the record's release added, what was released is again all that is gone of T.
+    pub fn enter(self, entries: [u32; 8], bytes: &[u8], out: &mut [u8]) -> Entered
         requires { ⌜ refusalOf self (now bytes) (length (now out)) ≡ 0 ⌝ }
         requires { ⌜ entries ≡ eight (entryAt (kindOf (now bytes)) (climateOf (now bytes))) ⌝ }
-        ensures { λ r. ⌜ r ≡ acceptedOf self (now (bytes .entry)) .ledger ⌝ }
-        ensures { λ _. ⌜ now (out .exit) ≡ outputRecord (acceptedOf self (now (bytes .entry))) ++ drop 48 (now (out .entry)) ⌝ }
+        ensures { λ r. ⌜ r ≡ enteredOf (acceptedOf self (now (bytes .entry))) ⌝ }
+        ensures { λ _. ⌜ now (out .exit) ≡ outputRecord (acceptedOf self (now (bytes .entry))) ++ drop recordBytes (now (out .entry)) ⌝ }
     {
         let all = self.decay_all(entries, bytes);
-        let factors = Factors::of(bytes);
         let brought = all.brought;
         let stock = all.stock;
-        let released = less(brought, stock);
+        let released = carbon::less(brought, stock);
         let year = self.year.after(self.n, bytes);
         let n = self.n + 1;
-        let kind = record::kind(bytes);
-        let climate = record::climate(bytes);
-        let says = Output {
-            period: n,
-            kind,
-            climate,
-            x0: all.x0,
-            figure: figure::figure(factors, all.x0),
-            bound: figure::bound(factors, figure::margins(n, brought)),
-            stock: stock::total(stock),
-            brought: stock::total(brought),
-        };
+        let says = figure::filed(n, bytes, all.x0, brought, stock);
         output::write(out, says);
-        Ledger {
+        let ledger = Ledger {
             n,
-            kind,
-            climate,
+            kind: says.kind,
+            climate: says.climate,
             year,
             brought,
             stock,
             released,
-        }
-    }
-
-    // Answers the ledger again at the end of a run, with what each type has released worked out: T less R, which it is in a sound
-    // ledger, and as before the run where no record was accepted. So the compiled loop of a run has nothing to carry for it.
-    pub(crate) fn settled(self, before: [u64; 8], accepted: u64) -> Ledger
-        requires { ⌜ (accepted ≡ 0 → self .released ≡ before) ⌝ }
-        requires { ⌜ ((accepted ≡ 0 → ⊥) → (sound self ≡ true) × (self .released ≡ eight (releasedAt self))) ⌝ }
-        ensures { λ r. ⌜ r ≡ self ⌝ }
-    {
-        let year = self.year;
-        let brought = self.brought;
-        let stock = self.stock;
-        let released = if accepted == 0 {
-            before
-        } else {
-            less(brought, stock)
         };
-        Ledger {
-            n: self.n,
-            kind: self.kind,
-            climate: self.climate,
-            year,
-            brought,
-            stock,
-            released,
-        }
+        Entered { ledger, says }
     }
 
     // Answers that a record is refused by a number; the ledger comes back as it is.
@@ -215,29 +174,37 @@ impl Ledger {
     }
 
     // Takes one record: answers the ledger after it, its releases, figure and bound, and writes its output record at the start
-    // of the output; or refuses it by number, and leaves the ledger and the output as they are. It is a run of one record, so
-    // that the step's code stands once in a program.
+    // of the output; or refuses it by number, and leaves the ledger and the output as they are.
     pub fn take(self, bytes: &[u8], out: &mut [u8]) -> Answer
         ensures { λ r. ⌜ r ≡ takeOf self (now (bytes .entry)) (length (now (out .entry))) ⌝ }
         ensures { λ _. ⌜ now (out .exit) ≡ writtenOf self (now (bytes .entry)) (now (out .entry)) ⌝ }
     {
-        if bytes.len() != Ledger::BYTES {
-            return self.refused(1);
+        let good = self.is_sound();
+        let year = self.year;
+        let refusal = refusal::first(
+            self.n,
+            self.kind,
+            self.climate,
+            year,
+            good,
+            bytes,
+            out.len(),
+        );
+        if refusal != 0 {
+            return self.refused(refusal);
         }
-        let end = file::run(self, bytes, out);
-        if end.refusal != 0 {
-            return self.refused(end.refusal);
-        }
-        let after = end.ledger;
+        let entries = carbon::entries(record::kind(bytes), record::climate(bytes));
+        let entered = self.enter(entries, bytes, out);
+        let after = entered.ledger;
         let released = after.released;
         let before = self.released;
         Answer {
             ledger: after,
             refusal: 0,
-            releases: less(released, before),
-            x0: numbers::read_u64(out, 8),
-            figure: numbers::read_u64(out, 16),
-            bound: numbers::read_u64(out, 24),
+            releases: carbon::less(released, before),
+            x0: entered.says.x0,
+            figure: entered.says.figure,
+            bound: entered.says.bound,
         }
     }
 
@@ -258,9 +225,9 @@ impl Ledger {
         let released = self.released;
         Totals {
             refusal: 0,
-            stock: stock::total(stock),
-            brought: stock::total(brought),
-            released: stock::total(released),
+            stock: carbon::total(stock),
+            brought: carbon::total(brought),
+            released: carbon::total(released),
         }
     }
 }

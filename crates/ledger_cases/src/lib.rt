@@ -91,7 +91,7 @@ pub fn run(payload: &[u8])
     let mut out = print::buffer();
     let room = print::room_of(numbers::read_u32(payload, image::BYTES));
     let lent = &mut out[0..room];
-    let outcome = ledger::run(ledger_of(payload), &payload[RUN_HEAD..], lent);
+    let outcome = run::run(ledger_of(payload), &payload[RUN_HEAD..], lent);
     put_outcome(outcome);
     print::bytes(lent, b'\n');
 }

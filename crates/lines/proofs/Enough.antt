@@ -7,10 +7,10 @@ use native.Mathlib.Omega.{arith}
 use borrow.Author.Tests.{le-leb, lt-leb}
 use lib.ListN.{length, length-append}
 use Rattle.record.specs.Fields.{recordBytes}
-use Rattle.stock.specs.Stock.{mostRecords}
-use Rattle.ledger.specs.Stock.{fresh}
-use Rattle.ledger.specs.History.{recordsOf, runOf}
-use Rattle.ledger.proofs.History.{records-join, run-refused, run-roomy, run-counts}
+use Rattle.carbon.specs.Carbon.{mostRecords}
+use Rattle.ledger.specs.Step.{fresh}
+use Rattle.run.specs.History.{recordsOf, runOf}
+use Rattle.run.proofs.History.{records-join, run-refused, run-roomy, run-counts}
 use Rattle.lines.specs.Listing.{runText, wholeRun, listingOf, mostLines, roomFor}
 
 -- More records than a ledger takes are not all accepted.

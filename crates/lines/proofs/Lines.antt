@@ -12,12 +12,12 @@ use Rattle.numbers.proofs.Bytes.{number-drop}
 use Rattle.record.specs.Fields.{recordBytes}
 use Rattle.ledger.specs.Refusal.{refusalOf}
 use Rattle.ledger.specs.Take.{acceptedOf, outputRecord, outputFields}
-use Rattle.ledger.specs.History.{Turn, outputs, Run, runOf}
+use Rattle.run.specs.History.{Turn, outputs, Run, runOf}
 use Rattle.ledger.specs.declared.book.Ledger.{Ledger}
 use Rattle.ledger.proofs.Accepted.{accepted}
 use Rattle.ledger.proofs.Fits.{output-says}
 use Rattle.ledger.proofs.Take.{output-length}
-use Rattle.ledger.proofs.History.{onFrom, run-goes-on, run-stops, run-ends}
+use Rattle.run.proofs.History.{onFrom, run-goes-on, run-stops, run-ends}
 use Rattle.line.specs.Line.{acceptedText}
 use Rattle.lines.specs.Listing.{answerText, linesOf, runText}
 use Rattle.lines.specs.Stretches.{outputText, outputLines}

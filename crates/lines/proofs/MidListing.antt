@@ -10,12 +10,12 @@ use lib.Dec.{T, eqb, ltb}
 use lib.ListN.{length, take, drop, length-drop, length-append, length-take, take-append-drop}
 use lib.Seq.{length-take-le, take-at, drop-at, drop-drop, take-all, sets-eq}
 use Rattle.record.specs.Fields.{recordBytes}
-use Rattle.stock.specs.Stock.{mostRecords}
-use Rattle.ledger.specs.Stock.{fresh}
-use Rattle.ledger.specs.History.{outputs, recordsOf, Run, runOf, outOf, outcomeOf}
-use Rattle.ledger.specs.declared.answer.Outcome.{Outcome}
+use Rattle.carbon.specs.Carbon.{mostRecords}
+use Rattle.ledger.specs.Step.{fresh}
+use Rattle.run.specs.History.{outputs, recordsOf, Run, runOf, outOf, outcomeOf}
+use Rattle.run.specs.declared.Outcome.{Outcome}
 use Rattle.ledger.specs.declared.book.Ledger.{Ledger}
-use Rattle.ledger.proofs.History.{no-records, records-join, records-count, onFrom, run-ends, run-join, run-refused, run-roomy, Counts, run-counts, run-most, outputs-length}
+use Rattle.run.proofs.History.{no-records, records-join, records-count, onFrom, run-ends, run-join, run-refused, run-roomy, Counts, run-counts, run-most, outputs-length}
 use Rattle.line.specs.Line.{refusedText}
 use Rattle.line.specs.Writing.{Writes}
 use Rattle.lines.specs.Listing.{linesOf, endText, runText, wholeRun, listingOf, mostLines, roomFor, listedOf, textOf, LendableText}

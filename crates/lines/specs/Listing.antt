@@ -7,10 +7,10 @@ use Prim.Native.Nat.{ℕ, _+_, _*_, _≤_}
 use lib.Dec.{eqb, leb}
 use lib.ListN.{length, take, drop}
 use Rattle.record.specs.Fields.{recordBytes}
-use Rattle.stock.specs.Stock.{mostRecords}
-use Rattle.ledger.specs.Stock.{fresh}
+use Rattle.carbon.specs.Carbon.{mostRecords}
+use Rattle.ledger.specs.Step.{fresh}
 use Rattle.ledger.specs.Take.{totalStock}
-use Rattle.ledger.specs.History.{Turn, recordsOf, Run, runOf}
+use Rattle.run.specs.History.{Turn, recordsOf, Run, runOf}
 use Rattle.ledger.specs.declared.answer.Answer.{Answer}
 use Rattle.line.specs.Line.{acceptedText, refusedText}
 use Rattle.lines.specs.declared.Listed.{Listed}

@@ -33,7 +33,7 @@ pub(crate) fn write_listing(file: &[u8], text: &mut [u8]) -> usize
     let mut refusal: u8 = 0;
     while (refusal == 0) & (at < file.len()) {
         let end = stretch_end(file, at);
-        let ran = ledger::run(ledger, &file[at..end], &mut out);
+        let ran = run::run(ledger, &file[at..end], &mut out);
         length = put_lines(text, length, &out, ran.accepted);
         let next = ran.ledger;
         ledger = next;

@@ -16,14 +16,14 @@ use Rattle.numbers.proofs.Lists.{length-more, each-map, each-more}
 use Rattle.record.specs.Fields.{factorsOf}
 use Rattle.record.proofs.Laws.{ranged}
 use Rattle.figure.specs.Figure.{marginOf, BOf}
-use Rattle.ledger.specs.Stock.{broughtAt, release, x0Of, after}
+use Rattle.ledger.specs.Step.{broughtAt, release, x0Of, after}
 use Rattle.ledger.specs.Refusal.{refusalOf}
 use Rattle.ledger.specs.Take.{acceptedOf}
-use Rattle.ledger.specs.History.{Turn}
+use Rattle.run.specs.History.{Turn}
 use Rattle.ledger.specs.declared.book.Ledger.{Ledger}
 use Rattle.ledger.specs.declared.answer.Answer.{Answer}
 use Rattle.ledger.proofs.Accepted as step
-use Rattle.ledger.proofs.History.{acceptedTurn}
+use Rattle.run.proofs.History.{acceptedTurn}
 use Rattle.promises.specs.Offering.{Offering, recordsIn}
 use Rattle.promises.specs.Exact.{inert, exactRelease, exactReleaseAt, exactFigure}
 use Rattle.promises.specs.Promises.{Chosen, WithinBound}

@@ -14,11 +14,11 @@ use Rattle.numbers.proofs.Fault.{refused-with, parted}
 use Rattle.waste.specs.Waste.{massLimit}
 use Rattle.record.specs.Fields.{kindOf, massOf}
 use Rattle.record.specs.Ranges.{light}
-use Rattle.year.specs.Year.{yearOf, months, beginsYear, shares, remembered}
-use Rattle.year.specs.declared.Year.{Year}
-use Rattle.year.proofs.Laws.{nothing-kept, remembers-own, unshared, not-shared}
+use Rattle.year_factors.specs.YearFactors.{yearOf, months, beginsYear, shares, remembered}
+use Rattle.year_factors.specs.declared.YearFactors.{YearFactors}
+use Rattle.year_factors.proofs.Laws.{nothing-kept, remembers-own, unshared, not-shared}
 use Rattle.refusal.specs.Refusal.{faultsOf}
-use Rattle.ledger.specs.Stock.{fresh, after}
+use Rattle.ledger.specs.Step.{fresh, after}
 use Rattle.ledger.specs.Refusal.{sound, refusalOf}
 use Rattle.ledger.specs.Take.{takeOf}
 use Rattle.ledger.specs.declared.book.Ledger.{Ledger}
@@ -35,7 +35,7 @@ use Rattle.promises.proofs.Stocks.{record-earlier, record-latest, all-c
 abbrev first : ℕ → ℕ
 first i = months * ((i - 1) / months) + 1
 
-abbrev yearAt : Offering → ℕ → Year
+abbrev yearAt : Offering → ℕ → YearFactors
 yearAt o i = yearOf (recordAt (recordsIn o) i)
 
 record Shared (o : Offering) : Type 0 where
@@ -102,7 +102,7 @@ shared _ (one-more o bytes room r e) k =
 same-three : (one other : List ℕ) → yearOf one ≡ yearOf other → SameYear one other
 unfolding yearOf
 same-three one other e =
-    record { same-factor = ap (λ (y : Year). y .factor) e; same-captured = ap (λ (y : Year). y .captured) e; same-class = ap (λ (y : Year). y .class) e }
+    record { same-factor = ap (λ (y : YearFactors). y .factor) e; same-captured = ap (λ (y : YearFactors). y .captured) e; same-class = ap (λ (y : YearFactors). y .class) e }
 
 ledger-sound : (o : Offering) → OneByOne o → sound (o .ledger) ≡ true
 ledger-sound _ none-yet = step.fresh-sound

@@ -5,12 +5,12 @@ use mathlib.Core.List.{List, [], _∷_, _++_}
 use Prim.Native.Nat.{ℕ}
 use native.Mathlib.Decide.{ℕ-discrete}
 use borrow.Author.Tests.{ne-eqb}
-use Rattle.ledger.specs.Stock.{after}
+use Rattle.ledger.specs.Step.{after}
 use Rattle.ledger.specs.Refusal.{refusalOf}
 use Rattle.ledger.specs.Take.{acceptedOf, refusedOf}
-use Rattle.ledger.specs.History.{Offer, Turn, turns, ledgerAfter, accepted}
+use Rattle.run.specs.History.{Offer, Turn, turns, ledgerAfter, accepted}
 use Rattle.ledger.specs.declared.book.Ledger.{Ledger}
-use Rattle.ledger.proofs.History.{acceptedTurn}
+use Rattle.run.proofs.History.{acceptedTurn}
 use Rattle.ledger.proofs.Take.{taken, not-taken}
 use Rattle.promises.specs.Offering.{Offering, offeringTo}
 

@@ -6,21 +6,21 @@ pub mod Decay
 pub mod Waste
 pub mod Record
 pub mod Output
-pub mod Stock
+pub mod Carbon
 pub mod Figure
-pub mod Year
+pub mod YearFactors
 pub mod Refusal
 pub mod Ledger
+pub mod Run
 pub mod Image
 pub mod Door
-pub mod Chart
 pub mod Samples
 pub mod Uncertainty
 pub mod Order
 pub mod Line
 pub mod Lines
 pub mod Calls
-pub mod Abi
+pub mod Landfill
 
 infixr 4 _&_
 -- A result r and the buffers s at exit, with what they say of the answer: the same for any two answers that a contract allows.

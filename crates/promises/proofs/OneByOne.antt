@@ -12,15 +12,15 @@ use Rattle.numbers.specs.Eight.{sumOf}
 use Rattle.numbers.specs.Lists.{added}
 use Rattle.numbers.proofs.Eight.{sum-plus, eight-at}
 use Rattle.numbers.proofs.Lists.{length-more, added-more}
-use Rattle.decay.specs.Series.{isKind}
+use Rattle.waste.specs.Kind.{isKind}
 use Rattle.waste.specs.Waste.{isClimate}
 use Rattle.record.specs.Fields.{depositOf}
-use Rattle.ledger.specs.Stock.{fresh, releasedAt, release, newReleased, x0Of, after}
+use Rattle.ledger.specs.Step.{fresh, releasedAt, release, newReleased, x0Of, after}
 use Rattle.ledger.specs.Refusal.{refusalOf}
 use Rattle.ledger.specs.Take.{acceptedOf, totalReleased}
-use Rattle.ledger.specs.History.{Offer, Turn}
+use Rattle.run.specs.History.{Offer, Turn}
 use Rattle.ledger.proofs.Accepted as step
-use Rattle.ledger.proofs.History.{acceptedTurn}
+use Rattle.run.proofs.History.{acceptedTurn}
 use Rattle.ledger.proofs.Step.{brought-after, release-answered, released-after, balanced}
 use Rattle.promises.specs.Offering.{Offering, offeringTo, offering, recordsIn}
 use Rattle.promises.specs.Promises.{Conserved}

@@ -6,14 +6,14 @@ use native.Mathlib.Decide.{ℕ-discrete}
 use native.Mathlib.Omega.{arith}
 use lib.ListN.{length, getD, take, drop, length-map}
 use Rattle.record.specs.Fields.{recordBytes}
-use Rattle.ledger.specs.Stock.{after}
+use Rattle.ledger.specs.Step.{after}
 use Rattle.ledger.specs.Refusal.{refusalOf}
 use Rattle.ledger.specs.Take.{takeOf, acceptedOf}
-use Rattle.ledger.specs.History.{recordsOf, inTurn, runOf, outOf, outcomeOf}
+use Rattle.run.specs.History.{recordsOf, inTurn, runOf, outOf, outcomeOf}
 use Rattle.ledger.specs.declared.book.Ledger.{Ledger}
-use Rattle.ledger.specs.declared.answer.Outcome.{Outcome}
+use Rattle.run.specs.declared.Outcome.{Outcome}
 use Rattle.ledger.proofs.Take.{take-refusal}
-use Rattle.ledger.proofs.History.{run-goes-on, run-stops, run-ends}
+use Rattle.run.proofs.History.{run-goes-on, run-stops, run-ends}
 use Rattle.promises.specs.Offering.{Offering, offeringTo, recordsIn}
 use Rattle.promises.specs.WholeRun.{LeadingAccepted, LeadingEnds, none-left, next-refused, runOver, WholeRun}
 use Rattle.promises.proofs.Offering.{offering-ends, offering-goes-on, offering-passes-over}

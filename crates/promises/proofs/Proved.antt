@@ -13,14 +13,14 @@ use Rattle.numbers.specs.Fraction.{Fraction}
 use Rattle.decay.proofs.Laws.{stands-for-sums}
 use Rattle.waste.specs.Waste.{rateOf, climates, isClimate}
 use Rattle.record.specs.Fields.{recordBytes}
-use Rattle.stock.specs.Stock.{entryAt}
-use Rattle.ledger.specs.Stock.{fresh, broughtAt, stockAt, after}
+use Rattle.carbon.specs.Carbon.{entryAt}
+use Rattle.ledger.specs.Step.{fresh, broughtAt, stockAt, after}
 use Rattle.ledger.specs.Take.{takeOf, acceptedOf, outputFields}
-use Rattle.ledger.specs.History.{recordsOf, runOf}
+use Rattle.run.specs.History.{recordsOf, runOf}
 use Rattle.ledger.specs.declared.book.Ledger.{Ledger}
 use Rattle.ledger.proofs.Accepted as step
 use Rattle.ledger.proofs.Take.{taken, take-refusal}
-use Rattle.ledger.proofs.History.{run-roomy}
+use Rattle.run.proofs.History.{run-roomy}
 use Rattle.samples.proofs.Answer.{nothing-sorted}
 use Rattle.lines.specs.Listing.{answerText, runText, wholeRun, listingOf}
 use Rattle.promises.specs.Offering.{Offering, offering, recordsIn}

@@ -14,8 +14,8 @@ use Rattle.numbers.proofs.Lists.{length-more}
 use Rattle.waste.specs.Waste.{carbonOf}
 use Rattle.record.specs.Fields.{depositOf}
 use Rattle.figure.specs.Figure.{marginOf}
-use Rattle.ledger.specs.Stock.{broughtAt, stockAt, release, after}
-use Rattle.ledger.proofs.History.{acceptedTurn}
+use Rattle.ledger.specs.Step.{broughtAt, stockAt, release, after}
+use Rattle.run.proofs.History.{acceptedTurn}
 use Rattle.ledger.proofs.Step.{brought-after, balanced}
 use Rattle.promises.specs.Offering.{Offering, recordsIn}
 use Rattle.promises.specs.Exact.{exactStock, exactRelease, depositIn, inert, exactReleaseAt}

@@ -5,18 +5,16 @@ use Prim.Native.Nat.{ℕ, suc, _-_}
 use native.Mathlib.Decide.{ℕ-discrete}
 use lib.ListN.{length, take}
 use Rattle.record.specs.Fields.{recordBytes}
-use Rattle.ledger.specs.Stock.{fresh, after}
+use Rattle.ledger.specs.Step.{fresh, after}
 use Rattle.ledger.specs.Refusal.{refusalOf}
 use Rattle.ledger.specs.Take.{acceptedOf}
-use Rattle.ledger.specs.History.{Turn, turns, accepted, recordsOf, inTurn, runOf}
+use Rattle.run.specs.History.{Turn, turns, accepted, recordsOf, inTurn, runOf}
 use Rattle.ledger.specs.declared.book.Ledger.{Ledger}
-use Rattle.ledger.proofs.History.{acceptedTurn, run-goes-on, run-stops, run-ends}
-use Rattle.image.specs.Image.{imageBytes, imageOf, ledgerOf, Kept}
-use Rattle.image.proofs.Kept.{released-stands, image-back, fresh-kept, turns-kept}
+use Rattle.run.proofs.History.{acceptedTurn, run-goes-on, run-stops, run-ends}
+use Rattle.image.specs.Image.{imageBytes, imageOf, freshLeft, ledgerOf, Kept}
+use Rattle.image.proofs.Kept.{released-stands, image-back, fresh-kept, fresh-keeps}
 use Rattle.calls.specs.Calls.{takeHere, runHere, offersOf}
-use Rattle.calls.proofs.Kept.{take-keeps, run-keeps}
-use Rattle.abi.specs.Entries.{freshLeft}
-use Rattle.abi.proofs.Fresh.{fresh-keeps}
+use Rattle.calls.proofs.Kept.{take-keeps, run-keeps, turns-kept}
 use Rattle.promises.specs.Offering.{offeringTo}
 use Rattle.promises.specs.Site.{Call, takes, runs, imageAfter, offersBy, acceptedBy, imageAfterAll, offersByAll, acceptedByAll, KeptSite}
 use Rattle.promises.proofs.OneByOne.{one-by-one, conserved}

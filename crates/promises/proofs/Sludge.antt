@@ -17,11 +17,11 @@ use Rattle.waste.specs.Waste.{carbonOf, mostCarbonOf}
 use Rattle.waste.proofs.Laws.{carbon-most}
 use Rattle.record.specs.Fields.{periodOf, factorsOf, dryOf, zerosOf, massOf, depositOf}
 use Rattle.record.specs.Ranges.{coded, dryInRange, light}
-use Rattle.stock.specs.Stock.{ceilingOf, withinOf}
-use Rattle.year.specs.Year.{shares, soundYear}
-use Rattle.year.specs.declared.Year.{Year}
+use Rattle.carbon.specs.Carbon.{ceilingOf, withinOf}
+use Rattle.year_factors.specs.YearFactors.{shares, soundYear}
+use Rattle.year_factors.specs.declared.YearFactors.{YearFactors}
 use Rattle.refusal.specs.Refusal.{continues, faultsOf}
-use Rattle.ledger.specs.Stock.{broughtAt, stockAt, releasedAt}
+use Rattle.ledger.specs.Step.{broughtAt, stockAt, releasedAt}
 use Rattle.ledger.specs.Refusal.{sound, allZero, inCode, inOrder, withinAt, refusalOf}
 use Rattle.ledger.specs.Take.{takeOf}
 use Rattle.ledger.specs.declared.book.Ledger.{Ledger}
@@ -96,7 +96,7 @@ module _ (one other : List ℕ) (alike : AlikeButDry one other) where
   period : periodOf one ≡ periodOf other
   period = rw (byte 0 (lit< tt), byte 1 (lit< tt))
 
-  year : (n : ℕ) (kept : Year) → shares n kept one ≡ shares n kept other
+  year : (n : ℕ) (kept : YearFactors) → shares n kept one ≡ shares n kept other
   unfolding shares
   year n kept = rw (byte 2 (lit< tt), byte 4 (lit< tt), byte 8 (lit< tt), byte 10 (lit< tt), byte 11 (lit< tt))
 

@@ -6,10 +6,10 @@ use native.Mathlib.Numerals.{add-one}
 use native.Mathlib.Omega.{arith}
 use Rattle.numbers.specs.Fraction.{Fraction, over, whole, _⊕_, _⊗_, _≼_, _≺_, _≈_, power, total}
 use Rattle.decay.specs.Series.{StandsFor}
-use Rattle.ledger.specs.Stock.{leftOf}
+use Rattle.carbon.specs.Carbon.{leftOf}
 use Rattle.promises.specs.Exact.{remains, exactStock}
 use Rattle.promises.specs.Promises.{CloseTo}
-use Rattle.ledger.proofs.Step.{left-most}
+use Rattle.carbon.proofs.Laws.{left-most}
 use Rattle.numbers.proofs.Fraction.{at-most-trans, at-most-below, same-trans, spread, regroup, times-left, times-right, add-at-most, add-same, total-alike, total-times}
 
 module _ (d : Fraction) (deposit : ℕ → ℕ) where

@@ -6,13 +6,13 @@ use native.Mathlib.Decide.{ℕ-discrete}
 use native.Mathlib.Omega.{arith}
 use lib.ListN.{length, getD, take}
 use Rattle.record.specs.Fields.{recordBytes}
-use Rattle.ledger.specs.Stock.{after}
+use Rattle.ledger.specs.Step.{after}
 use Rattle.ledger.specs.Refusal.{refusalOf}
 use Rattle.ledger.specs.Take.{takeOf, acceptedOf}
-use Rattle.ledger.specs.History.{Turn, accepted, recordsOf, inTurn, Run, runOf, outOf, outcomeOf}
+use Rattle.run.specs.History.{Turn, accepted, recordsOf, inTurn, Run, runOf, outOf, outcomeOf}
 use Rattle.ledger.specs.declared.book.Ledger.{Ledger}
 use Rattle.ledger.proofs.Take.{take-refusal}
-use Rattle.ledger.proofs.History.{onFrom, acceptedTurn, run-goes-on, run-stops, run-ends, outputs-length}
+use Rattle.run.proofs.History.{onFrom, acceptedTurn, run-goes-on, run-stops, run-ends, outputs-length}
 use Rattle.promises.specs.Offering.{Offering, offeringTo, recordsIn}
 use Rattle.promises.specs.WholeRun.{LeadingEnds, none-left, next-refused, runOver, WholeRun}
 use Rattle.promises.proofs.Offering.{inFront, offering-ends, offering-goes-on}

@@ -9,13 +9,13 @@ use Rattle.decay.specs.Series.{factorial, term, E, roundedDown, entryOf}
 use Rattle.waste.specs.Waste.{carbonOf, rateOf}
 use Rattle.record.specs.Fields
 use Rattle.record.specs.Ranges
-use Rattle.stock.specs.Stock.{entryAt}
-use Rattle.year.specs.Year
+use Rattle.carbon.specs.Carbon.{entryAt, leftOf}
+use Rattle.year_factors.specs.YearFactors
 use Rattle.refusal.specs.Refusal.{faultsOf}
 use Rattle.ledger.specs.Refusal
-use Rattle.ledger.specs.Stock
+use Rattle.ledger.specs.Step
 use Rattle.ledger.specs.Take
 
 pub worked : allOf (map holds rows) ≡ true
-unfolding holds firstRecord firstAnswer power total factorial term E roundedDown entryOf carbonOf rateOf Fields.factorsOf Fields.dryOf Fields.zerosOf Fields.massOf Fields.depositOf Ranges.coded Ranges.inRange Ranges.dryInRange Ranges.light Stock.fresh entryAt Stock.leftOf Stock.held Stock.newStock Stock.release Stock.after Year.yearOf Year.noYear Year.shares Year.remembered Year.soundYear Refusal.emptyAt Refusal.allZero Refusal.sound faultsOf Refusal.refusalOf Take.acceptedOf Take.takeOf
+unfolding holds firstRecord firstAnswer power total factorial term E roundedDown entryOf carbonOf rateOf Fields.factorsOf Fields.dryOf Fields.zerosOf Fields.massOf Fields.depositOf Ranges.coded Ranges.inRange Ranges.dryInRange Ranges.light Step.fresh entryAt leftOf Step.held Step.newStock Step.release Step.after YearFactors.yearOf YearFactors.noYear YearFactors.shares YearFactors.remembered YearFactors.soundYear Refusal.emptyAt Refusal.allZero Refusal.sound faultsOf Refusal.refusalOf Take.acceptedOf Take.takeOf
 worked = refl

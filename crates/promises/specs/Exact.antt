@@ -1,14 +1,13 @@
 -- Document 01, 'One step', its last sentences on the bound: the exact formula is the same chain with no rounding and with the
 -- chosen decay fractions. Place t has type t + 1, and records are counted from 1. Every − of whole numbers here is a true difference:
 -- i is at most n, n at least 1, and an accepted record has f at most 10000 and OX at most 100.
-use mathlib.Core.Bool.{Bool, cond}
+use mathlib.Core.Bool.{cond}
 use mathlib.Core.List.{List, []}
 use Prim.Native.Nat.{ℕ, _+_, _-_, _*_, _^_}
 use native.Mathlib.Omega.{arith}
-use lib.Dec.{eqb}
 use lib.ListN.{getD}
 use Rattle.numbers.specs.Fraction.{Fraction, over, whole, _⊕_, _⊖_, _⊗_, power, total}
-use Rattle.waste.specs.Waste.{correctionOf}
+use Rattle.waste.specs.Waste.{inert, correctionOf}
 use Rattle.record.specs.Fields.{factorsOf, depositOf}
 use Rattle.record.specs.declared.factors.Factors.{Factors}
 
@@ -33,10 +32,6 @@ recordAt records i = getD records (i - 1) []
 unfoldable pub depositIn : List (List ℕ) → (t i : ℕ) → ℕ
 depositIn records t i = depositOf (recordAt records i) t
 
--- Type 6 has no fraction; its exact stock and release are 0.
-abbrev pub inert : (t : ℕ) → Bool
-inert t = eqb (t + 1) 6
-
 -- The chain: x0 × factor × (10000 − f) / 10^6 × (100 − OX) × F × DOCf × MCF / 10^8 × 4 × GWP / 3000.
 unfoldable pub exactFigureOf : Factors → (x0 : Fraction) → Fraction
 exactFigureOf v x0 =
@@ -47,6 +42,7 @@ exactFigureOf v x0 =
 
 -- All types, with a fraction at each place and the accepted records:
 module _ (d : ℕ → Fraction) (records : List (List ℕ)) where
+  -- 'Type 6 has no fraction; its exact stock and release are 0.'
   unfoldable pub exactStockAt : (n t : ℕ) → Fraction
   exactStockAt n t = cond (inert t) (whole 0) (exactStock (d t) (depositIn records t) n)
 

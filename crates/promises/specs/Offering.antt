@@ -3,8 +3,8 @@ use mathlib.Core.List.{List, map}
 use Prim.Native.Nat.{ℕ}
 use lib.ListN.{getD}
 use Rattle.numbers.specs.Lists.{added}
-use Rattle.ledger.specs.Stock.{fresh}
-use Rattle.ledger.specs.History.{Offer, Turn, turns, ledgerAfter, accepted}
+use Rattle.ledger.specs.Step.{fresh}
+use Rattle.run.specs.History.{Offer, Turn, turns, ledgerAfter, accepted}
 use Rattle.ledger.specs.declared.book.Ledger.{Ledger}
 
 -- What has come of some offers: the ledger after them, and the accepted records in order, each with its answer.

@@ -15,24 +15,23 @@ use Rattle.numbers.specs.Lists.{added, Each}
 use Rattle.decay.specs.Series.{E, StandsFor, exponent}
 use Rattle.waste.specs.Waste.{massLimit, rateOf}
 use Rattle.record.specs.Fields.{recordBytes, periodOf, kindOf, climateOf, factorOf, classOf, capturedOf, massOf, depositOf}
-use Rattle.stock.specs.Stock.{entryAt}
-use Rattle.year.specs.Year.{yearOf, noYear}
+use Rattle.carbon.specs.Carbon.{entryAt}
+use Rattle.year_factors.specs.YearFactors.{yearOf, noYear}
 use Rattle.refusal.specs.Refusal.{faultsOf}
-use Rattle.ledger.specs.Stock.{fresh, broughtAt, stockAt, releasedAt}
+use Rattle.ledger.specs.Step.{fresh, broughtAt, stockAt, releasedAt}
 use Rattle.ledger.specs.Refusal.{sound}
 use Rattle.ledger.specs.Take.{totalStock, totalReleased, takeOf, outputFields}
-use Rattle.ledger.specs.History.{Offer, Turn, recordsOf, runOf, outOf, outcomeOf}
+use Rattle.run.specs.History.{Offer, Turn, recordsOf, runOf, outOf, outcomeOf}
 use Rattle.ledger.specs.declared.book.Ledger.{Ledger}
 use Rattle.ledger.specs.declared.answer.Answer.{Answer}
-use Rattle.ledger.specs.declared.answer.Outcome.{Outcome}
+use Rattle.run.specs.declared.Outcome.{Outcome}
 use Rattle.samples.specs.Samples.{fractionAt, numberOf, sortedOf}
 use Rattle.uncertainty.specs.Uncertainty.{entering, AtMost, squaresOf, chosenBy, byPercentages, byCodes}
 use Rattle.uncertainty.specs.declared.Uncertainties.{Uncertainties}
 use Rattle.order.specs.Order.{typesSeen}
-use Rattle.image.specs.Image.{imageBytes}
+use Rattle.image.specs.Image.{imageBytes, freshLeft}
 use Rattle.line.specs.Line.{acceptedText}
 use Rattle.lines.specs.Listing.{answerText, runText, listingOf}
-use Rattle.abi.specs.Entries.{freshLeft}
 use Rattle.promises.specs.Offering.{Offering, offering, recordsIn, releasedBy}
 use Rattle.promises.specs.Exact.{inert, recordAt, exactStockAt, exactFigure}
 use Rattle.promises.specs.WholeRun.{runOver, WholeRun}

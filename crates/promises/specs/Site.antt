@@ -4,7 +4,7 @@ use mathlib.Core.List.{List, [], _∷_, _++_}
 use Prim.Native.Nat.{ℕ, _+_, _*_, _<_}
 use lib.ListN.{length}
 use Rattle.numbers.specs.Bytes.{numberAt}
-use Rattle.ledger.specs.History.{Offer, Turn, accepted}
+use Rattle.run.specs.History.{Offer, Turn, accepted}
 use Rattle.image.specs.Image.{imageOf, ledgerOf}
 use Rattle.calls.specs.Calls.{takeHere, takeImage, runHere, runImage, offerOf, offersOf}
 use Rattle.promises.specs.Offering.{offering, releasedBy}

@@ -9,8 +9,8 @@ use lib.ListN.{length, getD}
 use Rattle.numbers.specs.Eight.{everyOf}
 use Rattle.numbers.specs.Fraction.{Fraction, over, whole, _⊗_, floor}
 use Rattle.record.specs.Fields.{massOf}
-use Rattle.year.specs.Year.{soundYear}
-use Rattle.ledger.specs.Stock.{broughtAt, stockAt, releasedAt}
+use Rattle.year_factors.specs.YearFactors.{soundYear}
+use Rattle.ledger.specs.Step.{broughtAt, stockAt, releasedAt}
 use Rattle.ledger.specs.Refusal.{allZero, inCode}
 use Rattle.ledger.specs.declared.book.Ledger.{Ledger}
 

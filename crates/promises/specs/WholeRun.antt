@@ -6,10 +6,10 @@ use Prim.Native.Nat.{ℕ, _-_, _*_, _<_}
 use lib.ListN.{length, getD, take, drop}
 use Rattle.record.specs.Fields.{recordBytes}
 use Rattle.ledger.specs.Take.{takeOf}
-use Rattle.ledger.specs.History.{outputs, recordsOf, inTurn, Run, runOf}
+use Rattle.run.specs.History.{outputs, recordsOf, inTurn, Run, runOf}
 use Rattle.ledger.specs.declared.book.Ledger.{Ledger}
 use Rattle.ledger.specs.declared.answer.Answer.{Answer}
-use Rattle.ledger.specs.declared.answer.Outcome.{Outcome}
+use Rattle.run.specs.declared.Outcome.{Outcome}
 use Rattle.promises.specs.Offering.{Offering, offeringTo, recordsIn}
 
 module _ (l : Ledger) (records : List (List ℕ)) (room : ℕ) (answer : Outcome) where

@@ -5,9 +5,10 @@ use Prim.Native.Nat.{ℕ, _-_, _*_, _^_}
 use lib.Dec.{eqb}
 use lib.ListN.{getD}
 use Rattle.numbers.specs.Bytes.{bytesOf}
+use Rattle.waste.specs.Kind.{yearly, monthly}
 use Rattle.decay.specs.Series.{entryOf}
 use Rattle.record.specs.Fields.{recordBytes}
-use Rattle.ledger.specs.Stock.{fresh, stockAt}
+use Rattle.ledger.specs.Step.{fresh, stockAt}
 use Rattle.ledger.specs.Take.{takeOf}
 use Rattle.ledger.specs.declared.answer.Answer.{Answer}
 
@@ -15,12 +16,6 @@ use Rattle.ledger.specs.declared.answer.Answer.{Answer}
 pub data Row : Type 0 where
   entry : (kind rate D : ℕ) → Row
   firstStep : (kind climate waste G R : ℕ) → Row
-
-abbrev pub yearly : ℕ
-yearly = 1
-
-abbrev pub monthly : ℕ
-monthly = 2
 
 -- P1 to P5, and P6 to P10: food, wood, paper, food by month, inert.
 abbrev pub rows : List Row

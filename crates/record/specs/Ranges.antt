@@ -5,7 +5,7 @@ use Prim.Native.Nat.{ℕ}
 use lib.Dec.{eqb, leb}
 use Rattle.numbers.specs.Eight.{allOf}
 use Rattle.numbers.specs.Fault.{between}
-use Rattle.decay.specs.Series.{isKind}
+use Rattle.waste.specs.Kind.{isKind}
 use Rattle.waste.specs.Waste.{massLimit, mostDry, isClimate, isClass}
 use Rattle.record.specs.Fields.{kindOf, climateOf, classOf, dryOf, zerosOf, massOf}
 use Rattle.record.specs.declared.factors.Factors.{Factors}

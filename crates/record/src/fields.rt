@@ -72,7 +72,7 @@ pub fn is_coded(bytes: &[u8]) -> bool
 {
     let class = waste::is_class(class(bytes)) & (two(bytes, 14) == 0);
     let climate = waste::is_climate(climate(bytes)) & class;
-    decay::is_kind(kind(bytes)) & climate
+    waste::is_kind(kind(bytes)) & climate
 }
 
 // Answers the mass at place t, in kg.

@@ -9,9 +9,9 @@ use Rattle.numbers.specs.Eight.{everyOf}
 use Rattle.numbers.specs.Fault.{Fault, _when_}
 use Rattle.record.specs.Fields.{recordBytes, periodOf, kindOf, climateOf, factorsOf}
 use Rattle.record.specs.Ranges.{coded, inRange, dryInRange, light}
-use Rattle.stock.specs.Stock.{mostRecords}
-use Rattle.year.specs.Year.{shares}
-use Rattle.year.specs.declared.Year.{Year}
+use Rattle.carbon.specs.Carbon.{mostRecords}
+use Rattle.year_factors.specs.YearFactors.{shares}
+use Rattle.year_factors.specs.declared.YearFactors.{YearFactors}
 
 -- Kind and climate are the ledger's.
 unfoldable pub continues : (kind climate : ℕ) → List ℕ → Bool
@@ -19,7 +19,7 @@ continues kind climate bytes = eqb (kindOf bytes) kind && eqb (climateOf bytes) 
 
 -- The faults by their numbers, in order, for a ledger with n records, its kind, its climate and the year that it remembers; `good`
 -- says whether the ledger is sound, and `room` how many bytes of output are left.
-unfoldable pub faultsOf : (good : Bool) (n kind climate : ℕ) → Year → List ℕ → (room : ℕ) → List Fault
+unfoldable pub faultsOf : (good : Bool) (n kind climate : ℕ) → YearFactors → List ℕ → (room : ℕ) → List Fault
 faultsOf good n kind climate year bytes room =
     1 when not (eqb (length bytes) recordBytes)
     ∷ 2 when ltb room recordBytes

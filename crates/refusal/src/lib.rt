@@ -1,14 +1,16 @@
 // The refusals of a record by their numbers: 'Refusal numbers' of document 01. The ledger asks it, with its own n, kind, climate
 // and year.
-mod file;
+mod lengths;
 
-pub use file::left_over;
-pub use file::reach;
+pub use lengths::left_over;
+pub use lengths::reach;
 ghost use mathlib.Core.Path.{_≡_};
+ghost use Rattle.numbers.specs.Eight.{everyOf};
 ghost use Rattle.numbers.specs.Fault.{firstOf, ahead};
+ghost use Rattle.record.specs.Ranges.{light};
 ghost use Rattle.refusal.specs.Refusal.{continues, faultsOf};
 use record::Factors;
-use year::Year;
+use year_factors::YearFactors;
 
 // Tells whether a record has a kind and a climate.
 fn is_continued(kind: u8, climate: u8, bytes: &[u8]) -> bool
@@ -18,7 +20,7 @@ fn is_continued(kind: u8, climate: u8, bytes: &[u8]) -> bool
 }
 
 // Answers the refusal that everything ahead of the masses (9) decides, 0 if none; `good` says whether the ledger is sound.
-pub fn early(n: u16, kind: u8, climate: u8, year: Year, good: bool, bytes: &[u8], room: usize) -> u8
+pub fn early(n: u16, kind: u8, climate: u8, year: YearFactors, good: bool, bytes: &[u8], room: usize) -> u8
     ensures { λ r. ⌜ r ≡ firstOf (ahead 9 (faultsOf good n kind climate year (now (bytes .entry)) room)) ⌝ }
 {
     if bytes.len() != record::BYTES {
@@ -30,7 +32,7 @@ pub fn early(n: u16, kind: u8, climate: u8, year: Year, good: bool, bytes: &[u8]
     if !good {
         return 3;
     }
-    if n == stock::RECORDS {
+    if n == carbon::RECORDS {
         return 4;
     }
     if !record::is_coded(bytes) {
@@ -47,6 +49,31 @@ pub fn early(n: u16, kind: u8, climate: u8, year: Year, good: bool, bytes: &[u8]
     }
     if !year.is_shared(n, bytes) {
         return 17;
+    }
+    0
+}
+
+// Tells whether every mass of a record is at most the limit.
+fn are_light(bytes: &[u8]) -> bool
+    ensures { λ r. ⌜ r ≡ everyOf (light (now (bytes .entry))) 8 ⌝ }
+{
+    let mut all = true;
+    for t in 0..8u8 {
+        all = all & record::is_light(bytes, t);
+    }
+    all
+}
+
+// Answers the refusal of a record, 0 if none: the first fault of all.
+pub fn first(n: u16, kind: u8, climate: u8, year: YearFactors, good: bool, bytes: &[u8], room: usize) -> u8
+    ensures { λ r. ⌜ r ≡ firstOf (faultsOf good n kind climate year (now (bytes .entry)) room) ⌝ }
+{
+    let early = early(n, kind, climate, year, good, bytes, room);
+    if early != 0 {
+        return early;
+    }
+    if !are_light(bytes) {
+        return 9;
     }
     0
 }

@@ -7,6 +7,7 @@ use lib.ListN.{length}
 use Rattle.numbers.specs.Bytes.{numberAt}
 use Rattle.numbers.specs.Eight.{eight, sumOf, everyOf}
 use Rattle.numbers.specs.Fault.{Fault, _when_, between, firstOf}
+use Rattle.waste.specs.Kind.{yearly, monthly}
 use Rattle.waste.specs.Waste.{massLimit}
 use Rattle.samples.specs.declared.Sorted.{Sorted}
 
@@ -28,9 +29,8 @@ mostSamples = 400
 abbrev pub monthSamples : ℕ
 monthSamples = 3
 
--- Kind 1 is a year, kind 2 a month.
 abbrev pub rightNumber : (kind Z : ℕ) → Bool
-rightNumber kind Z = eqb kind 1 && between leastSamples Z mostSamples || eqb kind 2 && eqb Z monthSamples
+rightNumber kind Z = eqb kind yearly && between leastSamples Z mostSamples || eqb kind monthly && eqb Z monthSamples
 
 module _ (samples : List ℕ) where
   -- The fraction at place t, which has type t + 1, of sample n, counted from 0.

@@ -49,8 +49,8 @@ fn is_right_number(kind: u8, bytes: usize) -> bool
     ensures { λ r. ⌜ r ≡ (rightNumber kind (bytes / sampleBytes) && eqb (bytes % sampleBytes) 0) ⌝ }
 {
     let count = (bytes / BYTES) as u64;
-    let year = (kind == 1) & numbers::is_between(LEAST_A_YEAR, count, MOST_A_YEAR);
-    let month = (kind == 2) & (count == A_MONTH);
+    let year = (kind == waste::YEARLY) & numbers::is_between(LEAST_A_YEAR, count, MOST_A_YEAR);
+    let month = (kind == waste::MONTHLY) & (count == A_MONTH);
     (year | month) & (bytes % BYTES == 0)
 }
 

@@ -2,7 +2,7 @@
 -- saved files hold: never sort them, and never let them follow the names in any language.
 use mathlib.Core.Bool.{Bool, cond}
 use mathlib.Core.List.{List, [], _∷_}
-use Prim.Native.Nat.{ℕ, _*_, _/_, _^_}
+use Prim.Native.Nat.{ℕ, _+_, _*_, _/_, _^_}
 use lib.Dec.{eqb}
 use lib.ListN.{getD, replicate}
 use Rattle.numbers.specs.Fault.{between}
@@ -72,6 +72,10 @@ none = replicate climates 0
 -- The rate group of types 1 to 8.
 abbrev pub groupOf : ℕ → List ℕ
 groupOf waste = getD (none ∷ groupB ∷ groupA ∷ groupD ∷ groupA ∷ groupC ∷ none ∷ groupD ∷ alike ∷ []) waste none
+
+-- 'Type 6 has no rate', and no carbon: place t, which has type t + 1, is that of inert waste.
+abbrev pub inert : (t : ℕ) → Bool
+inert t = eqb (t + 1) 6
 
 -- The rate of a type in a climate, and 0 where there is none.
 unfoldable pub rateOf : (waste climate : ℕ) → ℕ

@@ -1,9 +1,10 @@
-// The eight waste types by their fixed numbers, and the site classes: 'Waste types and their constants' of document 01.
-// The ledger looks its constants up here, the door and the samples their limit. A number that names no type, climate or class has 0.
+// The eight waste types by their fixed numbers, and the codes of kinds, climates and site classes: 'Waste types and their constants' of
+// document 01. The ledger looks its constants up here, the door and the samples their limit. A number that names nothing has 0.
 ghost use mathlib.Core.List.{_∷_};
 ghost use mathlib.Core.Path.{_≡_};
 ghost use Prim.Native.Nat.{_+_};
 ghost use Rattle.numbers.specs.Eight.{eight};
+ghost use Rattle.waste.specs.Kind.{isKind};
 ghost use Rattle.waste.specs.Waste.{domesticOf, industrialOf, carbonOf, isClimate, groupOf, rateOf, isClass, correctionOf};
 
 // The most of one type that a record or a cell can bring, and the largest total that samples part, in kilograms.
@@ -11,6 +12,11 @@ pub const MASS_LIMIT: u64 = 1_000_000_000;
 
 // The most organic dry matter that sludge can have, in percent.
 pub const MOST_DRY: u8 = 100;
+
+// The kinds of a record and of a run: by year, and by month.
+pub const YEARLY: u8 = 1;
+
+pub const MONTHLY: u8 = 2;
 
 // The climates, and the site classes, by codes from 1 on.
 const CLIMATES: usize = 4;
@@ -76,6 +82,13 @@ fn group(waste: u8) -> [u16; CLIMATES + 1]
         8 => ALIKE,
         _ => NONE,
     }
+}
+
+// Tells whether a number is a kind's code.
+pub fn is_kind(kind: u8) -> bool
+    ensures { λ r. ⌜ r ≡ isKind kind ⌝ }
+{
+    (kind == YEARLY) | (kind == MONTHLY)
 }
 
 // Tells whether a number is a climate's code.

@@ -3,8 +3,8 @@ use mathlib.Core.Path.{_≡_, refl, sym, ap, _∙_}
 use native.Mathlib.Omega.{arith}
 use denote.Ref.{now}
 use lib.ListN.{length}
-use Rattle.ledger.specs.History.{recordsOf, outcomeOf, outOf}
-use Rattle.ledger.specs.declared.answer.Outcome.{Outcome}
+use Rattle.run.specs.History.{recordsOf, outcomeOf, outOf}
+use Rattle.run.specs.declared.Outcome.{Outcome}
 use Rattle.calls.specs.Calls.{runHere}
 use Rattle.calls.proofs.Takes.{run-next, run-stays}
 use Rattle.calls.proofs.run.Statement.{statement}

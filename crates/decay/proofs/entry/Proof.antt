@@ -9,12 +9,13 @@ use Rattle.decay.proofs.entry.Tie as tie
 
 returns-3 : tie.Need-returns-3
 unfolding entryOf
-returns-3 c = let none = c .match .rest in simp (ne-eqb _ 1 (none .0 .1), ne-eqb _ 2 (none .1))
+returns-3 c = simp (ne-eqb _ _ (c .before .if1 .left), ne-eqb _ _ (c .if2 .left))
 
 pub entry-spec : {M : Type 1} → statement M
 entry-spec =
     tie.close
-    (tie.spec (λ c κs. search needs) (λ c κs. search needs)
-    (λ c. c .yearly .ensures ∙ ap (λ (kind : ℕ). entryOf kind (c .before .before .args .rate)) (sym (c .before .match .keys1)))
-    (λ c. c .monthly .ensures ∙ ap (λ (kind : ℕ). entryOf kind (c .before .before .args .rate)) (sym (c .before .match .keys2)))
+    (tie.spec (λ c κs. search needs)
+    (λ c. c .yearly .ensures ∙ ap (λ (kind : ℕ). entryOf kind (c .before .before .args .rate)) (sym (c .before .if1 .taken)))
+    (λ c κs. search needs)
+    (λ c. c .monthly .ensures ∙ ap (λ (kind : ℕ). entryOf kind (c .before .before .before .args .rate)) (sym (c .before .if2 .taken)))
     returns-3)

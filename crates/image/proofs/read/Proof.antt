@@ -1,7 +1,7 @@
 -- 200 bytes say their ledger; anything else counts as an unsound one.
 use borrow.Author.Needs.{needs}
 use borrow.Author.Tests.{eq-eqb, ne-eqb}
-use Rattle.ledger.specs.Stock.{fresh}
+use Rattle.ledger.specs.Step.{fresh}
 use Rattle.image.specs.Image.{saidBy, noLedger, ledgerOf}
 use Rattle.image.proofs.read.Statement.{statement}
 use Rattle.image.proofs.read.Tie as tie

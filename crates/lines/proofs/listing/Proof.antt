@@ -5,7 +5,7 @@ use native.Mathlib.Omega.{arith}
 use borrow.Author.Needs.{needs}
 use denote.Ref.{now}
 use lib.ListN.{length}
-use Rattle.ledger.proofs.History.{records-count}
+use Rattle.run.proofs.History.{records-count}
 use Rattle.lines.specs.Listing.{roomFor}
 use Rattle.lines.proofs.MidListing.{no-room, whole-text}
 use Rattle.lines.proofs.listing.Statement.{statement}

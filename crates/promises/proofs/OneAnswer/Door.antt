@@ -1,7 +1,8 @@
 -- The public functions of `door`.
 use Rattle.door.proofs.weigh.Reads as weigh
-use Rattle.door.proofs.Weighed.numbers.Reads as numbers
-use Rattle.door.proofs.Laws.{one-answer}
+use Rattle.door.proofs.cell.Weighed.numbers.Reads as numbers
+use Rattle.door.proofs.chart.Reads as chart
+use Rattle.door.proofs.Cells.{one-answer}
 use Rattle.promises.proofs.OneAnswer.{OneAnswer, by-equation}
 
 pub weigh-one : OneAnswer weigh.Learnt
@@ -9,3 +10,6 @@ weigh-one κs a r r′ s s′ p q = one-answer (a .0) r r′ p q
 
 pub numbers-one : OneAnswer numbers.Learnt
 numbers-one = by-equation (λ κs a r s p. p)
+
+pub chart-one : OneAnswer chart.Learnt
+chart-one = by-equation (λ κs a r s p. p)

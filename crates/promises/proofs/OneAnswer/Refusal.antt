@@ -1,11 +1,15 @@
 -- The public functions of `refusal`.
 use Rattle.refusal.proofs.early.Reads as early
+use Rattle.refusal.proofs.first.Reads as first
 use Rattle.refusal.proofs.reach.Reads as reach
 use Rattle.refusal.proofs.left_over.Reads as left-over
 use Rattle.promises.proofs.OneAnswer.{OneAnswer, by-equation}
 
 pub early-one : OneAnswer early.Learnt
 early-one = by-equation (λ κs a r s p. p)
+
+pub first-one : OneAnswer first.Learnt
+first-one = by-equation (λ κs a r s p. p)
 
 pub reach-one : OneAnswer reach.Learnt
 reach-one = by-equation (λ κs a r s p. p)

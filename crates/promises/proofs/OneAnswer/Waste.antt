@@ -1,5 +1,6 @@
 -- The public functions of `waste`.
 use Rattle.waste.proofs.carbon.Reads as carbon
+use Rattle.waste.proofs.is_kind.Reads as is-kind
 use Rattle.waste.proofs.is_climate.Reads as is-climate
 use Rattle.waste.proofs.rate.Reads as rate
 use Rattle.waste.proofs.rates.Reads as rates
@@ -9,6 +10,9 @@ use Rattle.promises.proofs.OneAnswer.{OneAnswer, by-equation}
 
 pub carbon-one : OneAnswer carbon.Learnt
 carbon-one = by-equation (λ κs a r s p. p)
+
+pub is-kind-one : OneAnswer is-kind.Learnt
+is-kind-one = by-equation (λ κs a r s p. p)
 
 pub is-climate-one : OneAnswer is-climate.Learnt
 is-climate-one = by-equation (λ κs a r s p. p)

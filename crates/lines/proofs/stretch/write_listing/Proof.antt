@@ -5,7 +5,7 @@ use native.Mathlib.Omega.{arith}
 use borrow.Author.Needs.{needs}
 use denote.Ref.{now}
 use lib.ListN.{length}
-use Rattle.ledger.specs.History.{outcomeOf, outOf}
+use Rattle.run.specs.History.{outcomeOf, outOf}
 use Rattle.lines.proofs.MidListing.{goes, no-more, MidListing, listing-starts, listing-ends, ran, output-stays, lines-fit, stretch-on}
 use Rattle.lines.proofs.stretch.write_listing.Statement.{statement}
 use Rattle.lines.proofs.stretch.write_listing.Tie as tie

@@ -9,10 +9,10 @@ use Rattle.numbers.specs.Eight.{eight}
 use Rattle.numbers.proofs.Eight.{eight-at}
 use Rattle.record.specs.Fields.{kindOf, climateOf, mostDeposit}
 use Rattle.record.proofs.Laws.{deposit-most}
-use Rattle.stock.specs.Stock.{entryAt}
+use Rattle.carbon.specs.Carbon.{entryAt}
 use Rattle.ledger.proofs.Sound.{WithinCeiling}
 use Rattle.ledger.proofs.Accepted.{Accepted, accepted}
-use Rattle.stock.proofs.Laws.{entry-small}
+use Rattle.carbon.proofs.Laws.{entry-small}
 use Rattle.ledger.proofs.Settle.{decayed-is}
 use Rattle.ledger.proofs.book.Ledger.decay.Statement.{statement}
 use Rattle.ledger.proofs.book.Ledger.decay.Tie as tie

@@ -4,8 +4,8 @@ use Prim.Native.Nat.{ℕ, _+_, _*_, _≤_, _<_}
 use native.Mathlib.Omega.{arith}
 use lib.Dec.{lit<}
 use borrow.Author.Needs.{needs}
-use Rattle.stock.specs.Stock.{mostBrought}
-use Rattle.ledger.specs.Stock.{decayedAt}
+use Rattle.carbon.specs.Carbon.{mostBrought}
+use Rattle.ledger.specs.Step.{decayedAt}
 use Rattle.ledger.specs.declared.period.Decayed.{Decayed}
 use Rattle.ledger.proofs.Settle.{all-decayed, seven-small}
 use Rattle.ledger.proofs.Accepted.{accepted, new-small, no-carbon}

@@ -9,8 +9,8 @@ use denote.Ref.{now}
 use lib.ListN.{length, getD}
 use Rattle.numbers.specs.Eight.{eight, sumOf}
 use Rattle.output.specs.Output.{written}
-use Rattle.stock.proofs.Laws.{sum-fits}
-use Rattle.ledger.specs.Stock.{broughtAt, stockAt, newBrought, newStock, newReleased, periodOfAll, after}
+use Rattle.carbon.proofs.Laws.{sum-fits}
+use Rattle.ledger.specs.Step.{broughtAt, stockAt, newBrought, newStock, newReleased, periodOfAll, after}
 use Rattle.ledger.specs.Take.{acceptedOf, totalStock, totalBrought, outputFields, outputRecord}
 use Rattle.ledger.proofs.Sound.{sound-is, gone-is}
 use Rattle.ledger.proofs.Accepted.{Accepted, accepted, stays-sound, has-room, room-alike}

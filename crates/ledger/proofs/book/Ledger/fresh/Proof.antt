@@ -1,6 +1,6 @@
 -- All zero.
 use borrow.Author.Needs.{needs}
-use Rattle.ledger.specs.Stock.{fresh}
+use Rattle.ledger.specs.Step.{fresh}
 use Rattle.ledger.proofs.book.Ledger.fresh.Statement.{statement}
 use Rattle.ledger.proofs.book.Ledger.fresh.Tie as tie
 

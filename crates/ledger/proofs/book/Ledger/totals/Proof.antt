@@ -3,8 +3,8 @@ use mathlib.Core.Path.{sym, _∙_}
 use native.Mathlib.Omega.{arith}
 use borrow.Author.Needs.{needs}
 use borrow.Author.Tests.{not-true, not-false}
-use Rattle.stock.proofs.Laws.{sum-fits}
-use Rattle.ledger.specs.Stock.{broughtAt, stockAt, releasedAt}
+use Rattle.carbon.proofs.Laws.{sum-fits}
+use Rattle.ledger.specs.Step.{broughtAt, stockAt, releasedAt}
 use Rattle.ledger.specs.Take.{totalStock, totalBrought, totalReleased, totalsOf}
 use Rattle.ledger.proofs.Sound.{sound-is}
 use Rattle.ledger.proofs.book.Ledger.totals.Statement.{statement}

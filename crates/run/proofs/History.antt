@@ -1,0 +1,185 @@
+-- How a history goes: the records of a file, a step that accepts, a step that refuses, and stretches one after another.
+use mathlib.Core.Path.{_≡_, refl, sym, ap, _∙_}
+use mathlib.Core.List.{List, [], _∷_, _++_, append-assoc}
+use Prim.Native.Nat.{ℕ, zero, suc, _+_, _-_, _*_, _/_, _≤_, _<_}
+use native.Mathlib.Decide.{ℕ-discrete}
+use native.Mathlib.Omega.{arith}
+use borrow.Author.Tests.{eq-eqb, ne-eqb}
+use lib.ListN.{length, take, drop, length-drop, length-append}
+use lib.Seq.{take-append-le, drop-append-le, take-all}
+use Rattle.record.specs.Fields.{recordBytes}
+use Rattle.carbon.specs.Carbon.{mostRecords}
+use Rattle.ledger.specs.Step.{after}
+use Rattle.ledger.specs.Refusal.{refusalOf}
+use Rattle.ledger.specs.Take.{acceptedOf, takeOf, outputRecord}
+use Rattle.run.specs.History.{Turn, turnOf, turns, ledgerAfter, leading, ending, outputs, cut, recordsOf, inTurn, Run, runOf}
+use Rattle.ledger.specs.declared.book.Ledger.{Ledger}
+use Rattle.ledger.proofs.Take.{taken, take-refusal, output-length}
+use Rattle.ledger.proofs.Accepted.{accepted, room-alike}
+
+-- A file of no bytes has no records, and any other has a first record and the records of the rest.
+pub no-records : (file : List ℕ) → length file ≡ 0 → recordsOf file ≡ []
+unfolding recordsOf cut
+no-records file h = rw h
+
+pub first-record : (file : List ℕ) → 0 < length file → recordsOf file ≡ take recordBytes file ∷ recordsOf (drop recordBytes file)
+unfolding recordsOf cut
+first-record file h =
+    let e : (length file + 47) / 48 ≡ suc ((length (drop 48 file) + 47) / 48) = simp length-drop (omega arith) in
+    ap (λ (k : ℕ). cut k file) e
+
+-- The bytes of one record are one record.
+pub one-record : (bytes : List ℕ) → length bytes ≡ recordBytes → recordsOf bytes ≡ bytes ∷ []
+one-record bytes h =
+    first-record bytes (omega arith)
+    ∙ rw (no-records (drop recordBytes bytes) (simp length-drop (omega arith)), take-all recordBytes bytes (omega arith))
+
+-- A file has a record for every 48 bytes begun.
+cut-length : (k : ℕ) (file : List ℕ) → length (cut k file) ≡ k
+unfolding cut
+cut-length zero file = refl
+cut-length (suc k) file = ap suc (cut-length k (drop recordBytes file))
+
+pub records-count : (file : List ℕ) → length (recordsOf file) ≡ (length file + 47) / recordBytes
+unfolding recordsOf
+records-count file = cut-length ((length file + 47) / recordBytes) file
+
+-- Whole records in front of a file are in front of its records.
+pub records-join : (k : ℕ) (file rest : List ℕ) → length file ≡ recordBytes * k
+    → (recordsOf (file ++ rest) ≡ recordsOf file ++ recordsOf rest) × (length (recordsOf file) ≡ k)
+records-join zero [] rest e = rw (no-records [] refl) (refl, refl)
+records-join zero (b ∷ file) rest e = absurd (omega arith)
+records-join (suc k) file rest e =
+    let on = records-join k (drop 48 file) rest (simp length-drop (omega arith)) in
+    let first = first-record file (omega arith) in
+    let joined : recordsOf (file ++ rest) ≡ take 48 file ∷ recordsOf (drop 48 file ++ rest)
+    = first-record (file ++ rest) (simp length-append (omega arith))
+    ∙ rw (take-append-le 48 file rest (omega arith), drop-append-le 48 file rest (omega arith)) in
+    (joined ∙ rw (on .0, first), rw first (ap suc (on .1)))
+
+-- A run that stops at once, with a refusal or at the end.
+abbrev pub stopped : Ledger → ℕ → Run
+stopped l refusal = record { ledger = l; accepted = []; refusal = refusal }
+
+-- Accepted records in front of a run.
+abbrev pub onFrom : List Turn → Run → Run
+onFrom done r = record { ledger = r .ledger; accepted = done ++ r .accepted; refusal = r .refusal }
+
+abbrev pub acceptedTurn : Ledger → List ℕ → Turn
+acceptedTurn l bytes = record { bytes = bytes; answer = acceptedOf l bytes }
+
+-- what the turn at the head of a run decides
+module _ (l : Ledger) (turn : Turn) (rest : List Turn) where
+  abbrev readOff : Run
+  readOff = record { ledger = ledgerAfter l (leading (turn ∷ rest)); accepted = leading (turn ∷ rest); refusal = ending (turn ∷ rest) }
+
+  goes-on : turn .answer .refusal ≡ 0
+      → readOff ≡ onFrom (turn ∷ []) (record { ledger = ledgerAfter (turn .answer .ledger) (leading rest); accepted = leading rest; refusal = ending rest })
+  unfolding leading ending ledgerAfter
+  goes-on e = simp (eq-eqb (turn .answer .refusal) 0 e)
+
+  stops : (turn .answer .refusal ≡ 0 → ⊥) → readOff ≡ stopped l (turn .answer .refusal)
+  unfolding leading ending ledgerAfter
+  stops e = simp (ne-eqb (turn .answer .refusal) 0 e)
+
+-- A run is its first step and the run of the rest ...
+module _ (l : Ledger) (bytes : List ℕ) (rest : List (List ℕ)) (room : ℕ) where
+  pub run-goes-on : refusalOf l bytes room ≡ 0
+      → runOf l (bytes ∷ rest) room ≡ onFrom (acceptedTurn l bytes ∷ []) (runOf (acceptedOf l bytes .ledger) rest (room - recordBytes))
+  unfolding runOf turns inTurn
+  run-goes-on e =
+      goes-on l (turnOf l (record { bytes = bytes; room = room })) _ (take-refusal l bytes room ∙ e)
+      ∙ rw (taken l bytes room e)
+
+  -- ... or stops at a record that is refused.
+  pub run-stops : (q : ℕ) → refusalOf l bytes room ≡ q → (q ≡ 0 → ⊥) → runOf l (bytes ∷ rest) room ≡ stopped l q
+  unfolding runOf turns inTurn
+  run-stops q e h =
+      let is : takeOf l bytes room .refusal ≡ q = take-refusal l bytes room ∙ e in
+      stops l (turnOf l (record { bytes = bytes; room = room })) _ (λ z. h (sym is ∙ z)) ∙ ap (stopped l) is
+
+pub run-ends : (l : Ledger) (room : ℕ) → runOf l [] room ≡ stopped l 0
+unfolding runOf turns inTurn leading ending ledgerAfter
+run-ends l room = refl
+
+pub on-from : (done : List Turn) (turn : Turn) (r : Run) → onFrom done (onFrom (turn ∷ []) r) ≡ onFrom (done ++ (turn ∷ [])) r
+on-from done turn r = λ i. record { ledger = r .ledger; accepted = sym (append-assoc done (turn ∷ []) (r .accepted)) i; refusal = r .refusal }
+
+-- Two stretches of records are one, where the first ends without refusal.
+pub run-join : (l : Ledger) (xs ys : List (List ℕ)) (room : ℕ) → runOf l xs room .refusal ≡ 0
+    → runOf l (xs ++ ys) room ≡ onFrom (runOf l xs room .accepted) (runOf (runOf l xs room .ledger) ys (room - recordBytes * length xs))
+run-join l [] ys room none = rw (run-ends l room) (ap (λ (k : ℕ). runOf l ys k) (omega arith))
+run-join l (bytes ∷ xs) ys room none =
+    elim (ℕ-discrete (refusalOf l bytes room) 0) [
+      | yes e ↦
+          let l′ = acceptedOf l bytes .ledger in
+          let first = run-goes-on l bytes xs room e in
+          let on = run-join l′ xs ys (room - recordBytes) (sym (ap (λ (r : Run). r .refusal) first) ∙ none) in
+          let left : room - recordBytes - recordBytes * length xs ≡ room - recordBytes * suc (length xs) = omega arith in
+          run-goes-on l bytes (xs ++ ys) room e
+          ∙ ap (onFrom (acceptedTurn l bytes ∷ [])) on
+          ∙ rw (first, left)
+      | no e ↦ absurd (e (sym (ap (λ (r : Run). r .refusal) (run-stops l bytes xs room (refusalOf l bytes room) refl e)) ∙ none))
+    ]
+
+-- Records behind one that is refused change nothing.
+pub run-refused : (l : Ledger) (xs ys : List (List ℕ)) (room : ℕ) → (runOf l xs room .refusal ≡ 0 → ⊥) → runOf l (xs ++ ys) room ≡ runOf l xs room
+run-refused l [] ys room some = absurd (some (ap (λ (r : Run). r .refusal) (run-ends l room)))
+run-refused l (bytes ∷ xs) ys room some =
+    elim (ℕ-discrete (refusalOf l bytes room) 0) [
+      | yes e ↦
+          let first = run-goes-on l bytes xs room e in
+          run-goes-on l bytes (xs ++ ys) room e
+          ∙ ap (onFrom (acceptedTurn l bytes ∷ []))
+          (run-refused (acceptedOf l bytes .ledger) xs ys (room - recordBytes) (λ z. some (ap (λ (r : Run). r .refusal) first ∙ z)))
+          ∙ sym first
+      | no e ↦ run-stops l bytes (xs ++ ys) room (refusalOf l bytes room) refl e ∙ sym (run-stops l bytes xs room (refusalOf l bytes room) refl e)
+    ]
+
+-- n counts the accepted records, which are all that there are, or fewer where one is refused.
+pub record Counts (l : Ledger) (xs : List (List ℕ)) (r : Run) : Type 0 where
+  pub n : r .ledger .n ≡ l .n + length (r .accepted)
+  pub few : r .ledger .n ≤ mostRecords
+  pub all : r .refusal ≡ 0 → length (r .accepted) ≡ length xs
+  pub fewer : (r .refusal ≡ 0 → ⊥) → length (r .accepted) < length xs
+
+pub run-counts : (l : Ledger) (xs : List (List ℕ)) (room : ℕ) → l .n ≤ mostRecords → Counts l xs (runOf l xs room)
+unfolding acceptedOf after
+run-counts l [] room h = rw (run-ends l room) (record { n = omega arith; few = h; all = λ q. refl; fewer = λ q. absurd (q refl) })
+run-counts l (bytes ∷ xs) room h =
+    elim (ℕ-discrete (refusalOf l bytes room) 0) [
+      | yes e ↦
+          let more = accepted l bytes room e .more in
+          let on = run-counts (acceptedOf l bytes .ledger) xs (room - recordBytes) (omega arith) in
+          rw (run-goes-on l bytes xs room e)
+          (record { n = omega (arith, on .n); few = on .few; all = λ q. ap suc (on .all q); fewer = λ q. omega (arith, on .fewer q) })
+      | no e ↦ rw (run-stops l bytes xs room (refusalOf l bytes room) refl e)
+          (record { n = omega arith; few = h; all = λ q. absurd (e q); fewer = λ q. omega arith })
+    ]
+
+pub run-most : (l : Ledger) (xs : List (List ℕ)) (r : Run) → Counts l xs r → length (r .accepted) ≤ length xs
+run-most l xs r c = elim (ℕ-discrete (r .refusal) 0) [ yes e ↦ omega (arith, c .all e) | no e ↦ omega (arith, c .fewer e) ]
+
+-- With room for every output record, how much room there is changes nothing.
+pub run-roomy : (l : Ledger) (xs : List (List ℕ)) (room more : ℕ) → recordBytes * length xs ≤ room → recordBytes * length xs ≤ more
+    → runOf l xs room ≡ runOf l xs more
+run-roomy l [] room more h k = run-ends l room ∙ sym (run-ends l more)
+run-roomy l (bytes ∷ xs) room more h k =
+    let same = room-alike l bytes room more (omega arith) (omega arith) in
+    elim (ℕ-discrete (refusalOf l bytes room) 0) [
+      | yes e ↦ run-goes-on l bytes xs room e
+          ∙ ap (onFrom (acceptedTurn l bytes ∷ [])) (run-roomy (acceptedOf l bytes .ledger) xs (room - recordBytes) (more - recordBytes) (omega arith) (omega arith))
+          ∙ sym (run-goes-on l bytes xs more (sym same ∙ e))
+      | no e ↦ run-stops l bytes xs room (refusalOf l bytes room) refl e ∙ sym (run-stops l bytes xs more (refusalOf l bytes room) (sym same) e)
+    ]
+
+-- Output records are 48 bytes each, and follow one another.
+pub outputs-length : (done : List Turn) → length (outputs done) ≡ recordBytes * length done
+unfolding outputs
+outputs-length [] = refl
+outputs-length (turn ∷ rest) = length-append (outputRecord (turn .answer)) (outputs rest) ∙ omega (arith, output-length (turn .answer), outputs-length rest)
+
+pub outputs-join : (done more : List Turn) → outputs (done ++ more) ≡ outputs done ++ outputs more
+unfolding outputs
+outputs-join [] more = refl
+outputs-join (turn ∷ rest) more = rw (outputs-join rest more, append-assoc)
