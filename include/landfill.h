@@ -1,4 +1,4 @@
-/* The landfill ledger, for C and C++ on x86-64: link libabi.a.
+/* The landfill ledger, for C and C++ on x86-64: link liblandfill.a.
  *
  * A site's waste goes in as records of 48 bytes, one a year or one a month. Each accepted record gives the carbon that
  * the site released in that period, the figure in grams CO2e that goes into the methane estimate, and a bound on how far
