@@ -24,7 +24,7 @@ import samples_cases
 import sludge_checks
 import uncertainty_checks
 from checks import NO_VALUES, NOTHING, ROOM, check, fields_of, offered, told_again
-from faults import applied
+from faults import applied, named
 from histories import KINDS_AND_CLIMATES, PLAIN, balanced, damaged, file_of, measured, next_measured, next_record, only
 from histories import replaced
 from reference import FRESH, Ledger, Year, decay, deposits, rates, step, write_record
@@ -306,7 +306,7 @@ def samples_at_fault(rng):
     """Each fault alone, and which of two is named."""
     for kind, faults in product((1, 2), [(fault,) for fault in samples_cases.FAULTS] + samples_cases.PAIRS):
         sorting = applied(fair_sorting(rng, kind), faults)
-        check(f"masses of {sorting}", reference.masses(*sorting), (faults[0].number, NOTHING))
+        check(f"masses of {sorting}", reference.masses(*sorting), (named(*faults), NOTHING))
 
 
 def sampled(sorting):
