@@ -198,9 +198,9 @@ enum {
  * An image that was kept before records had an m stays sound. An image that is kept now may be refused with 3 by a library
  * from before, whose ceiling on T has DOC 500 and 900 for types 7 and 8; and a record that has an m is refused by it with 5. */
 
-/* Refusals. A record is tested in the order of 1 to 8, then 17, then 9, a total with its samples in the order of 14 to 16,
- * uncertainties in that of 18 and 19, and a file to repair in that of 20 to 22; the first that holds is the answer. Later
- * numbers may leave gaps. */
+/* Refusals. The first that holds is the answer, and they are tested in this order: for a record 1, 2, 3, 4, 5, 6, 7, 8, 17, 9;
+ * for a total with its samples 14, 15, 16; for uncertainties 18, 19; for a file to repair 20, 21, 22. The numbers may come to
+ * have gaps. */
 enum {
     LANDFILL_ACCEPTED = 0,           /* not refused */
     LANDFILL_NOT_48_BYTES = 1,       /* the record is not 48 bytes */

@@ -1,6 +1,8 @@
 #!/usr/bin/env python3
 """Holds the reference to all that document 01 prints, to the sources' own tables and equations, and to demand 3.
 
+It holds the refusal numbers to those of docs/METHOD.md, README.md and include/landfill.h.
+
 Of document 02 it holds masses from samples, the carbon released so far, months that share the year's factors, the
 correction factor from uncertainties, sludge with a measured dry matter, and the shuffled files put right.
 
@@ -19,6 +21,7 @@ import decay_tables
 import months_checks
 import order_checks
 import reference
+import refusal_checks
 import retold
 import samples_cases
 import sludge_checks
@@ -339,6 +342,8 @@ def cases_page():
 
 def main():
     constants()
+    refusal_checks.in_documents()
+    refusal_checks.in_header()
     worked_figures()
     allowed()
     refused()
