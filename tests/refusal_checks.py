@@ -28,7 +28,7 @@ def in_documents():
 
 
 def in_header():
-    """The header names 0 and each number, and no other; each name has a text of its own, and no other number has one."""
+    """The header names 0 and each number, and no other; each name has a text of its own, and nothing else has one."""
     names = dict(re.findall(r"(LANDFILL_\w+) = (\d+)", part_of(HEADER, "/* Refusals.", "};")))
     check(f"refusals in {HEADER}", sorted(map(int, names.values())), [0, *sorted(ORDER)])
     body = part_of(HEADER, "landfill_refusal_text(unsigned refusal)", "\n}")
