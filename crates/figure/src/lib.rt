@@ -9,7 +9,7 @@ ghost use Rattle.numbers.specs.Eight.{sumOf};
 ghost use Rattle.record.specs.Fields.{kindOf, climateOf, factorsOf};
 ghost use Rattle.record.specs.Ranges.{inRange};
 ghost use Rattle.carbon.specs.Carbon.{mostBrought};
-ghost use Rattle.figure.specs.Figure.{figureOf, marginOf, BOf, boundOf};
+ghost use Rattle.figure.specs.Figure.{figureOf, BOf, boundOf};
 use output::Output;
 use record::Factors;
 
@@ -57,32 +57,34 @@ pub fn figure(factors: Factors, x0: u64) -> u64
     grams(x2, factors.potential)
 }
 
-// Answers n + 1 for a type that brought something in, and 0 for any other.
-fn counted(n: u16, brought: u64) -> u64
-    ensures { λ r. ⌜ (r ≡ cond (eqb brought 0) 0 (n + 1)) × (r ≤ n + 1) ⌝ }
+// Answers 1 for a type that brought something in, and 0 for any other.
+fn counted(brought: u64) -> u64
+    ensures { λ r. ⌜ (r ≡ cond (eqb brought 0) 0 1) × (r ≤ 1) ⌝ }
 {
     if brought == 0 {
         return 0;
     }
-    n as u64 + 1
+    1
 }
 
-// Answers what a type counts in B, with n records and T mg brought in; without a branch, which costs a run fewer instructions.
-fn margin(n: u16, brought: u64) -> u64
-    ensures { λ r. ⌜ (r ≡ marginOf n brought) × (r ≤ 2 ^ 51) ⌝ }
+// Answers n × T / 10^9 rounded down.
+fn share(n: u16, brought: u64) -> u64
+    ensures { λ r. ⌜ (r ≡ n * brought / 10 ^ 9) × (r ≤ 2 ^ 51) ⌝ }
 {
-    counted(n, brought) + numbers::mul_div(brought, n as u64, 1_000_000_000)
+    numbers::mul_div(brought, n as u64, 1_000_000_000)
 }
 
-// Answers B, what the eight types count together.
+// Answers B, what the eight types count together: n + 1 for each that brought something in, and the shares of all.
 pub fn margins(n: u16, brought: [u64; 8]) -> u64
     ensures { λ r. ⌜ r ≡ BOf n (λ t. getD brought t 0) ⌝ }
 {
-    let mut sum = 0u64;
+    let mut types = 0u64;
+    let mut shares = 0u64;
     for t in 0..8 {
-        sum += margin(n, brought[t]);
+        types += counted(brought[t]);
+        shares += share(n, brought[t]);
     }
-    sum
+    types * (n as u64 + 1) + shares
 }
 
 // Answers the bound of a record, from B, in grams CO2e.

@@ -1,4 +1,4 @@
--- By the test itself; n has 16 bits.
+-- By the test itself.
 use borrow.Author.Needs.{needs}
 use borrow.Author.Tests.{eq-eqb, ne-eqb}
 use Rattle.figure.proofs.counted.Statement.{statement}
@@ -7,4 +7,4 @@ use Rattle.figure.proofs.counted.Tie as tie
 pub counted-spec : {M : Type 1} → statement M
 counted-spec =
     tie.close
-    (tie.spec (λ c. (simp (eq-eqb _ _ (c .if1 .taken)), search needs)) (λ c. search needs) (λ c. (simp (ne-eqb _ _ (c .if1 .left)), search needs)))
+    (tie.spec (λ c. (simp (eq-eqb _ _ (c .if1 .taken)), search needs)) (λ c. (simp (ne-eqb _ _ (c .if1 .left)), search needs)))
