@@ -27,14 +27,14 @@ use Rattle.promise_three.specs.DemandThree.{Conserved}
 use Rattle.promise_three.proofs.Offering.{offering-ends, offering-goes-on, offering-passes-over, behind}
 
 -- no record, and one accepted record more
-abbrev pub begun : Offering
-begun = record { ledger = fresh; accepted = [] }
+abbrev pub freshOffering : Offering
+freshOffering = record { ledger = fresh; accepted = [] }
 
 abbrev pub withOne : Offering → (bytes : List ℕ) → Offering
 withOne o bytes = record { ledger = after (o .ledger) bytes; accepted = o .accepted ++ (acceptedTurn (o .ledger) bytes ∷ []) }
 
 pub data OneByOne : Offering → Type 0 where
-  none-yet : OneByOne begun
+  none-yet : OneByOne freshOffering
   one-more : (o : Offering) (bytes : List ℕ) (room : ℕ) → OneByOne o → refusalOf (o .ledger) bytes room ≡ 0 → OneByOne (withOne o bytes)
 
 -- and more offers
@@ -49,7 +49,7 @@ goes-one-by-one (offer ∷ rest) o r =
     ]
 
 pub one-by-one : (offers : List Offer) → OneByOne (offering offers)
-one-by-one offers = goes-one-by-one offers begun none-yet
+one-by-one offers = goes-one-by-one offers freshOffering none-yet
 
 pub records-more : (o : Offering) (bytes : List ℕ) → recordsIn (withOne o bytes) ≡ recordsIn o ++ (bytes ∷ [])
 records-more o bytes = map-append (λ (turn : Turn). turn .bytes) (o .accepted) (acceptedTurn (o .ledger) bytes ∷ [])

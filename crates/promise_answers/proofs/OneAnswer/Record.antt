@@ -36,8 +36,8 @@ kind-one = by-equation (λ κs a r s p. p)
 pub climate-one : OneAnswer climate.Learnt
 climate-one = by-equation (λ κs a r s p. p)
 
-pub factor-one : OneAnswer factor.Learnt
-factor-one = by-equation (λ κs a r s p. p)
+pub record-factor-one : OneAnswer factor.Learnt
+record-factor-one = by-equation (λ κs a r s p. p)
 
 pub class-one : OneAnswer class.Learnt
 class-one = by-equation (λ κs a r s p. p)
