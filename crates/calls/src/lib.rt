@@ -2,9 +2,11 @@
 // hand their buffers over to it: 'One step' of document 01, and its last paragraph.
 ghost use mathlib.Core.Path.{_≡_};
 ghost use lib.ListN.{length};
+ghost use Rattle.ledger.specs.Take.{takeOf, writtenOf};
 ghost use Rattle.run.specs.History.{outOf};
 ghost use Rattle.calls.specs.Calls.{answered, roomOf, takeHere, takeImage, takeOut, takeAnswer, runHere, runImage};
 use ledger::Answer;
+use ledger::Ledger;
 
 // The bytes of an answer.
 const ANSWER_BYTES: usize = 88;
@@ -30,6 +32,32 @@ fn room(out: usize, answer: usize) -> usize
     if answer < ANSWER_BYTES { 0 } else { out }
 }
 
+// Takes one record as a run of one record, so that the step's code is in a program once; its x0, figure and bound are read back from
+// its output record.
+fn take_one(ledger: Ledger, bytes: &[u8], out: &mut [u8]) -> Answer
+    ensures { λ r. ⌜ r ≡ takeOf ledger (now (bytes .entry)) (length (now (out .entry))) ⌝ }
+    ensures { λ _. ⌜ now (out .exit) ≡ writtenOf ledger (now (bytes .entry)) (now (out .entry)) ⌝ }
+{
+    if bytes.len() != Ledger::BYTES {
+        return ledger.refused(1);
+    }
+    let end = run::run(ledger, bytes, out);
+    if end.refusal != 0 {
+        return ledger.refused(end.refusal);
+    }
+    let after = end.ledger;
+    let released = after.released;
+    let before = ledger.released;
+    Answer {
+        ledger: after,
+        refusal: 0,
+        releases: carbon::less(released, before),
+        x0: numbers::read_u64(out, 8),
+        figure: numbers::read_u64(out, 16),
+        bound: numbers::read_u64(out, 24),
+    }
+}
+
 // Takes one record: the image, the output and the answer are written, or the refusal's number comes back.
 pub fn take(image: &mut [u8], record: &[u8], out: &mut [u8], answer: &mut [u8]) -> u8
     ensures { λ r. ⌜ r ≡ takeHere (now (image .entry)) (now («record» .entry)) (now (out .entry)) (now (answer .entry)) .refusal ⌝ }
@@ -38,7 +66,7 @@ pub fn take(image: &mut [u8], record: &[u8], out: &mut [u8], answer: &mut [u8]) 
     ensures { λ _. ⌜ now (answer .exit) ≡ takeAnswer (now (image .entry)) (now («record» .entry)) (now (out .entry)) (now (answer .entry)) ⌝ }
 {
     let room = room(out.len(), answer.len());
-    let taken = image::read(image).take(record, &mut out[..room]);
+    let taken = take_one(image::read(image), record, &mut out[..room]);
     write_answer(answer, taken);
     if taken.refusal == 0 {
         image::write(image, taken.ledger);

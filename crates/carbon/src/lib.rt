@@ -66,29 +66,35 @@ pub fn less(of: [u64; 8], by: [u64; 8]) -> [u64; 8]
     rest
 }
 
-// Tells whether T of place t is within what n records can bring, and parted into R and what was released. A sum that 64 bits do
+// Tells whether T of place t is within what n records can bring, and made up of R and what was released. A sum that 64 bits do
 // not hold comes out below R, so that with R at most T no wrapped sum is T.
 fn is_within(n: u64, brought: u64, left: u64, released: u64, t: usize) -> bool
     requires { ⌜ (n ≤ mostRecords) × (t < 8) ⌝ }
     ensures { λ r. ⌜ r ≡ withinOf n brought left released t ⌝ }
 {
     let ceiling = n * waste::MASS_LIMIT * waste::carbon(t as u8 + 1, waste::MOST_DRY) as u64 * 100;
-    let sum = std::num::wrapping_add_u64(released, left);
-    (brought <= ceiling) & (left <= brought) & (sum == brought)
+    if brought > ceiling {
+        return false;
+    }
+    if left > brought {
+        return false;
+    }
+    std::num::wrapping_add_u64(released, left) == brought
 }
 
-// Tells whether there are no more records than a ledger takes, and every T is within what they can bring, and parted.
+// Tells whether there are no more records than a ledger takes, and every T is within what they can bring, and made up so.
 pub fn are_within(n: u16, brought: [u64; 8], left: [u64; 8], released: [u64; 8]) -> bool
     ensures { λ r. ⌜ r ≡ (leb n mostRecords && everyOf (λ t. withinOf n (getD brought t 0) (getD left t 0) (getD released t 0) t) 8) ⌝ }
 {
     if n > RECORDS {
         return false;
     }
-    let mut all = true;
     for t in 0..8 {
-        all = all & is_within(n as u64, brought[t], left[t], released[t], t);
+        if !is_within(n as u64, brought[t], left[t], released[t], t) {
+            return false;
+        }
     }
-    all
+    true
 }
 
 // Answers the sum over the eight types, in 64 bits; no sum of a sound ledger is wider.

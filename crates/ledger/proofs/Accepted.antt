@@ -1,6 +1,6 @@
 -- What holds of a record that is not refused, looked up by the fault's number, and that the ledger after it is sound again.
 use mathlib.Core.Path.{_≡_, refl}
-use mathlib.Core.Bool.{Bool, true, false, not, cond, _&&_}
+use mathlib.Core.Bool.{true, false, _&&_}
 use mathlib.Core.List.{List}
 use Prim.Native.Nat.{ℕ, _+_, _≤_, _<_}
 use native.Mathlib.Omega.{arith}
@@ -8,9 +8,8 @@ use borrow.Author.Tests.{not-false, eqb-true, eqb-false, ltb-false, lt-ltb, le-l
 use lib.Dec.{eqb}
 use lib.ListN.{length}
 use Rattle.numbers.specs.Eight.{everyOf}
-use Rattle.numbers.specs.Fault.{firstOf, ahead}
 use Rattle.numbers.proofs.Eight.{both-true, all-true, every-at, eight-at}
-use Rattle.numbers.proofs.Fault.{isBad, clear, parted}
+use Rattle.numbers.proofs.Fault.{isBad, clear}
 use Rattle.waste.specs.Kind.{isKind}
 use Rattle.waste.specs.Waste.{carbonOf, isClimate, isClass}
 use Rattle.record.specs.Fields.{recordBytes, periodOf, kindOf, climateOf, classOf, factorsOf}
@@ -85,19 +84,6 @@ module _ (l : Ledger) (bytes : List ℕ) where
         shared = not-false (shares (l .n) (l .year) bytes) (none l bytes room e 17);
         light-each = λ t h. every-at (light bytes) 8 t h (not-false (everyOf (light bytes) 8) (none l bytes room e 9));
       }
-
--- The refusal is what everything ahead of the masses decides, and else what the masses decide.
-module _ (l : Ledger) (bytes : List ℕ) (room : ℕ) where
-  abbrev pub early : Bool → ℕ
-  early good = firstOf (ahead 9 (faultsOf good (l .n) (l .kind) (l .climate) (l .year) bytes room))
-
-  pub refused-early : (early (sound l) ≡ 0 → ⊥) → refusalOf l bytes room ≡ early (sound l)
-  unfolding refusalOf faultsOf
-  refused-early h = parted 9 (faultsOf (sound l) (l .n) (l .kind) (l .climate) (l .year) bytes room) refl .0 h
-
-  pub refused-late : early (sound l) ≡ 0 → refusalOf l bytes room ≡ cond (not (everyOf (light bytes) 8)) 9 0
-  unfolding refusalOf faultsOf
-  refused-late h = parted 9 (faultsOf (sound l) (l .n) (l .kind) (l .climate) (l .year) bytes room) refl .1 h
 
 -- Room for an output record is all the room that matters.
 pub room-alike : (l : Ledger) (bytes : List ℕ) (room more : ℕ) → recordBytes ≤ room → recordBytes ≤ more → refusalOf l bytes room ≡ refusalOf l bytes more

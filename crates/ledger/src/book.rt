@@ -160,7 +160,7 @@ impl Ledger {
     }
 
     // Answers that a record is refused by a number; the ledger comes back as it is.
-    fn refused(self, refusal: u8) -> Answer
+    pub fn refused(self, refusal: u8) -> Answer
         ensures { λ r. ⌜ r ≡ refusedOf self refusal ⌝ }
     {
         Answer {

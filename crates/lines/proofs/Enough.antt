@@ -9,9 +9,10 @@ use lib.ListN.{length, length-append}
 use Rattle.record.specs.Fields.{recordBytes}
 use Rattle.carbon.specs.Carbon.{mostRecords}
 use Rattle.ledger.specs.Step.{fresh}
-use Rattle.run.specs.History.{recordsOf, runOf}
+use Rattle.run.specs.History.{recordsOf, runOf, wholeRun}
 use Rattle.run.proofs.History.{records-join, run-refused, run-roomy, run-counts}
-use Rattle.lines.specs.Listing.{runText, wholeRun, listingOf, mostLines, roomFor}
+use Rattle.line.specs.Line.{lineBytes}
+use Rattle.lines.specs.Listing.{runText, listingOf, mostLines, roomFor}
 
 -- More records than a ledger takes are not all accepted.
 not-all : (xs : List (List ℕ)) (room : ℕ) → mostRecords < length xs → runOf fresh xs room .refusal ≡ 0 → ⊥
@@ -34,10 +35,10 @@ no-byte-more file rest e =
     ∙ run-roomy fresh xs all (recordBytes * length xs) more (omega arith))
 
 -- And 108,090 bytes of text have room for the lines of any file.
-pub enough-room : (file : List ℕ) → roomFor file ≤ 90 * (mostRecords + 1)
+pub enough-room : (file : List ℕ) → roomFor file ≤ lineBytes * (mostRecords + 1)
 unfolding roomFor mostLines
 enough-room file = by-size (decLe (length (recordsOf file)) (mostRecords + 1))
   where
-    by-size : Dec (length (recordsOf file) ≤ mostRecords + 1) → roomFor file ≤ 90 * (mostRecords + 1)
+    by-size : Dec (length (recordsOf file) ≤ mostRecords + 1) → roomFor file ≤ lineBytes * (mostRecords + 1)
     by-size (yes few) = simp (le-leb (length (recordsOf file)) (mostRecords + 1) few) (omega arith)
     by-size (no many) = simp (lt-leb (length (recordsOf file)) (mostRecords + 1) (omega arith)) (omega arith)

@@ -20,7 +20,7 @@ use Rattle.ledger.proofs.Take.{output-length}
 use Rattle.run.proofs.History.{onFrom, run-goes-on, run-stops, run-ends}
 use Rattle.line.specs.Line.{acceptedText}
 use Rattle.lines.specs.Listing.{answerText, linesOf, runText}
-use Rattle.lines.specs.Stretches.{outputText, outputLines}
+use Rattle.lines.specs.Outputs.{outputText, outputLines}
 
 -- An output record behind the first one says what it says in the rest.
 text-behind : (at : ℕ) (bytes : List ℕ) → outputText bytes (48 + at) ≡ outputText (drop 48 bytes) at

@@ -12,42 +12,18 @@ use lib.Seq.{length-take-le, take-at, drop-at, drop-drop, take-all, sets-eq}
 use Rattle.record.specs.Fields.{recordBytes}
 use Rattle.carbon.specs.Carbon.{mostRecords}
 use Rattle.ledger.specs.Step.{fresh}
-use Rattle.run.specs.History.{outputs, recordsOf, Run, runOf, outOf, outcomeOf}
+use Rattle.run.specs.History.{outputs, recordsOf, Run, outOf, outcomeOf, wholeRun}
+use Rattle.run.specs.Stretches.{stretchBytes, stretchRun}
 use Rattle.run.specs.declared.Outcome.{Outcome}
 use Rattle.ledger.specs.declared.book.Ledger.{Ledger}
-use Rattle.run.proofs.History.{no-records, records-join, records-count, onFrom, run-ends, run-join, run-refused, run-roomy, Counts, run-counts, run-most, outputs-length}
-use Rattle.line.specs.Line.{refusedText}
+use Rattle.run.proofs.History.{no-records, run-ends, Counts, run-most}
+use Rattle.run.proofs.Stretches.{restRun, counts, output-fits, output-size, all-records, stretch-most, goes-on, ends-here}
+use Rattle.line.specs.Line.{lineBytes, refusedText}
 use Rattle.line.specs.Writing.{Writes}
-use Rattle.lines.specs.Listing.{linesOf, endText, runText, wholeRun, listingOf, mostLines, roomFor, listedOf, textOf, LendableText}
-use Rattle.lines.specs.Stretches.{outputLines, endRoom, Lists}
+use Rattle.lines.specs.Listing.{linesOf, endText, runText, listingOf, mostLines, roomFor, listedOf, textOf, LendableText}
+use Rattle.lines.specs.Outputs.{outputLines, endRoom, Lists}
 use Rattle.lines.specs.declared.Listed.{Listed}
 use Rattle.lines.proofs.Lines.{lines-say, text-join}
-
--- What the test at the head of the loop tells.
-pub goes : (refusal at size : ℕ) → (eqb refusal 0 && ltb at size) ≡ true → (refusal ≡ 0) × (at < size)
-goes refusal at size e = (eqb-true refusal 0 (both (eqb refusal 0) (ltb at size) e .0), ltb-true at size (both (eqb refusal 0) (ltb at size) e .1))
-  where
-    both : (p q : Bool) → (p && q) ≡ true → (p ≡ true) × (q ≡ true)
-    both true q e = (refl, e)
-    both false q e = absurd (subst T (sym e) tt)
-
-pub no-more : (refusal at size : ℕ) → (eqb refusal 0 && ltb at size) ≡ false → refusal ≡ 0 → size ≤ at
-no-more refusal at size e z = ltb-false at size (simp (eq-eqb refusal 0 z) at e)
-
--- The first 1536 bytes of a file are 32 records, or all of them.
-stretch-records : (file : List ℕ) → recordsOf file ≡ recordsOf (take 1536 file) ++ recordsOf (drop 1536 file)
-stretch-records file = by-size (decLe 1536 (length file))
-  where
-    by-size : Dec (1536 ≤ length file) → recordsOf file ≡ recordsOf (take 1536 file) ++ recordsOf (drop 1536 file)
-    by-size (yes long) =
-        ap recordsOf (sym (take-append-drop 1536 file))
-        ∙ records-join 32 (take 1536 file) (drop 1536 file) (length-take-le 1536 file long) .0
-    by-size (no short) =
-        rw (
-          take-all 1536 file (omega arith),
-          no-records (drop 1536 file) (simp length-drop (omega arith)),
-          append-nil,
-        )
 
 -- So many lines are no more than there can be.
 lines-within : (lines records : ℕ) → lines ≤ records → lines ≤ mostRecords + 1 → lines ≤ mostLines records
@@ -95,10 +71,6 @@ whole-text file text₀ {text} {len} enough lists =
       (simp some (rw (n, lists .whole, ← lists .past) (sym (take-append-drop len text))), (lists .within, sym size)),
     )
 
--- The run of what is left of a file, with room for every output record.
-abbrev pub restRun : Ledger → List ℕ → Run
-restRun l left = runOf l (recordsOf left) (recordBytes * length (recordsOf left))
-
 -- What is left of the listing: the line of a refusal, and without one the text of the run from here on.
 unfoldable pub restText : (refusal : ℕ) (l : Ledger) (left : List ℕ) → List ℕ
 restText refusal l left = cond (eqb refusal 0) (runText (l .n + 1) (restRun l left)) (refusedText refusal (l .n + 1))
@@ -107,7 +79,7 @@ restText refusal l left = cond (eqb refusal 0) (runText (l .n + 1) (restRun l le
 pub record MidListing (file text₀ text : List ℕ) (l : Ledger) (at len refusal : ℕ) : Type 0 where
   pub few : l .n ≤ mostRecords
   pub in-file : at ≤ length file
-  pub room : (k : ℕ) → k ≤ length (recordsOf (drop at file)) → l .n + k ≤ mostRecords + 1 → len + 90 * k ≤ length text
+  pub room : (k : ℕ) → k ≤ length (recordsOf (drop at file)) → l .n + k ≤ mostRecords + 1 → len + lineBytes * k ≤ length text
   pub end-room : len + endRoom refusal ≤ length text
   pub as-long : length text ≡ length text₀
   pub untouched : drop len text ≡ drop len text₀
@@ -150,58 +122,20 @@ module _ {file text₀ text : List ℕ} {l : Ledger} {at len refusal : ℕ} (h :
 
 -- A stretch from where no refusal is.
 module _ {file text₀ text : List ℕ} {l : Ledger} {at len : ℕ} (h : MidListing file text₀ text l at len 0) where
-  abbrev pub left : List ℕ
+  abbrev left : List ℕ
   left = drop at file
 
-  -- its records, and their run
-  abbrev stretch : List (List ℕ)
-  stretch = recordsOf (take 1536 left)
+  abbrev ran : Run
+  ran = stretchRun l left
 
-  abbrev pub ran : Run
-  ran = runOf l stretch 1536
-
-  stretch-few : length stretch ≤ 32
-  stretch-few = omega (arith, records-count (take 1536 left), length-take 1536 left)
-
-  output-fits : 48 * length (ran .accepted) ≤ 1536
-  output-fits = omega (arith, stretch-few, run-most l stretch ran (run-counts l stretch 1536 (h .few)))
-
-  output-size : (out : List ℕ) → length out ≡ 1536 → length (outOf ran out) ≡ 1536
-  unfolding outOf
-  output-size out size = simp (length-append, length-drop) (omega (arith, outputs-length (ran .accepted), output-fits))
-
-  counts : Counts l stretch ran
-  counts = run-counts l stretch 1536 (h .few)
-
-  all-records : length (recordsOf left) ≡ length stretch + length (recordsOf (drop 1536 left))
-  all-records = ap length (stretch-records left) ∙ length-append stretch (recordsOf (drop 1536 left))
-
-  -- the same run with the room of the whole
-  same-run : runOf l stretch (recordBytes * length (recordsOf left)) ≡ ran
-  same-run = run-roomy l stretch (recordBytes * length (recordsOf left)) 1536 (omega (arith, all-records)) (omega (arith, stretch-few))
-
-  rest-is : restRun l left ≡ runOf l (stretch ++ recordsOf (drop 1536 left)) (recordBytes * length (recordsOf left))
-  rest-is = ap (λ (rs : List (List ℕ)). runOf l rs (recordBytes * length (recordsOf left))) (stretch-records left)
-
-  goes-on : ran .refusal ≡ 0 → restRun l left ≡ onFrom (ran .accepted) (restRun (ran .ledger) (drop 1536 left))
-  goes-on none =
-      let room : recordBytes * length (recordsOf left) - recordBytes * length stretch ≡ recordBytes * length (recordsOf (drop 1536 left))
-      = omega (arith, all-records) in
-      rest-is
-      ∙ run-join l stretch (recordsOf (drop 1536 left)) (recordBytes * length (recordsOf left)) (ap (λ (r : Run). r .refusal) same-run ∙ none)
-      ∙ rw (same-run, room)
-
-  ends-here : (ran .refusal ≡ 0 → ⊥) → restRun l left ≡ ran
-  ends-here some =
-      rest-is
-      ∙ run-refused l stretch (recordsOf (drop 1536 left)) (recordBytes * length (recordsOf left)) (λ z. some (sym (ap (λ (r : Run). r .refusal) same-run) ∙ z))
-      ∙ same-run
+  after-it : Counts l (recordsOf (take stretchBytes left)) ran
+  after-it = counts l left (h .few)
 
   -- the lines of the stretch fit, and the line of a refusal behind them
-  stretch-fits : len + 90 * length (ran .accepted) ≤ length text
-  stretch-fits = h .room (length (ran .accepted)) (omega (arith, all-records, run-most l stretch ran counts)) (omega (arith, counts .n, counts .few))
+  stretch-fits : len + lineBytes * length (ran .accepted) ≤ length text
+  stretch-fits = h .room (length (ran .accepted)) (stretch-most l left (h .few)) (omega (arith, after-it .n, after-it .few))
 
-  refusal-fits : (mid : ℕ) → mid ≤ len + 90 * length (ran .accepted) → mid + endRoom (ran .refusal) ≤ length text
+  refusal-fits : (mid : ℕ) → mid ≤ len + lineBytes * length (ran .accepted) → mid + endRoom (ran .refusal) ≤ length text
   unfolding endRoom
   refusal-fits mid short = by-refusal (ℕ-discrete (ran .refusal) 0)
     where
@@ -209,38 +143,38 @@ module _ {file text₀ text : List ℕ} {l : Ledger} {at len : ℕ} (h : MidList
       by-refusal (yes z) = simp (eq-eqb (ran .refusal) 0 z) (omega (arith, stretch-fits))
       by-refusal (no z) =
           simp (ne-eqb (ran .refusal) 0 z)
-          (omega (arith, h .room (length (ran .accepted) + 1) (omega (arith, all-records, counts .fewer z)) (omega (arith, counts .n, counts .few))))
+          (omega (arith, h .room (length (ran .accepted) + 1) (omega (arith, all-records l left (h .few), after-it .fewer z)) (omega (arith, after-it .n, after-it .few))))
 
-  room-on : (mid : ℕ) → mid ≤ len + 90 * length (ran .accepted)
-      → (k : ℕ) → k ≤ length (recordsOf (drop 1536 left)) → ran .ledger .n + k ≤ mostRecords + 1 → mid + 90 * k ≤ length text
+  room-on : (mid : ℕ) → mid ≤ len + lineBytes * length (ran .accepted)
+      → (k : ℕ) → k ≤ length (recordsOf (drop stretchBytes left)) → ran .ledger .n + k ≤ mostRecords + 1 → mid + lineBytes * k ≤ length text
   room-on mid short k h₁ h₂ =
-      omega (arith, h .room (length (ran .accepted) + k) (omega (arith, all-records, run-most l stretch ran counts)) (omega (arith, counts .n)))
+      omega (arith, h .room (length (ran .accepted) + k) (omega (arith, all-records l left (h .few), run-most l (recordsOf (take stretchBytes left)) ran after-it)) (omega (arith, after-it .n)))
 
   -- what the listing has behind the lines of the stretch
-  rest-on : restText 0 l left ≡ linesOf (ran .accepted) ++ restText (ran .refusal) (ran .ledger) (drop 1536 left)
+  rest-on : restText 0 l left ≡ linesOf (ran .accepted) ++ restText (ran .refusal) (ran .ledger) (drop stretchBytes left)
   unfolding restText runText endText
   rest-on = by-refusal (ℕ-discrete (ran .refusal) 0)
     where
       place : l .n + 1 + length (ran .accepted) ≡ ran .ledger .n + 1
-      place = omega (arith, counts .n)
+      place = omega (arith, after-it .n)
 
-      by-refusal : Dec (ran .refusal ≡ 0) → restText 0 l left ≡ linesOf (ran .accepted) ++ restText (ran .refusal) (ran .ledger) (drop 1536 left)
+      by-refusal : Dec (ran .refusal ≡ 0) → restText 0 l left ≡ linesOf (ran .accepted) ++ restText (ran .refusal) (ran .ledger) (drop stretchBytes left)
       by-refusal (yes z) =
-          simp (eq-eqb (ran .refusal) 0 z) (rw (goes-on z) (text-join (l .n + 1) (ran .accepted) (restRun (ran .ledger) (drop 1536 left)) ∙ rw place))
-      by-refusal (no z) = rw (ends-here z) (simp (ne-eqb (ran .refusal) 0 z) (rw place))
+          simp (eq-eqb (ran .refusal) 0 z) (rw (goes-on l left (h .few) z) (text-join (l .n + 1) (ran .accepted) (restRun (ran .ledger) (drop stretchBytes left)) ∙ rw place))
+      by-refusal (no z) = rw (ends-here l left (h .few) z) (simp (ne-eqb (ran .refusal) 0 z) (rw place))
 
   -- the output records say the lines
   lines-are : (out : List ℕ) → outputLines (outOf ran out) (length (ran .accepted)) ≡ linesOf (ran .accepted)
   unfolding outOf
-  lines-are out = lines-say l stretch 1536 (drop (length (outputs (ran .accepted))) out)
+  lines-are out = lines-say l (recordsOf (take stretchBytes left)) stretchBytes (drop (length (outputs (ran .accepted))) out)
 
   -- the lines of the stretch behind the text, and the listing stands behind the stretch
-  lines-on : {text′ : List ℕ} {mid : ℕ} → Writes text len (linesOf (ran .accepted)) text′ mid → mid ≤ len + 90 * length (ran .accepted)
-      → (at′ : ℕ) → at′ ≤ length file → drop at′ file ≡ drop 1536 left → MidListing file text₀ text′ (ran .ledger) at′ mid (ran .refusal)
+  lines-on : {text′ : List ℕ} {mid : ℕ} → Writes text len (linesOf (ran .accepted)) text′ mid → mid ≤ len + lineBytes * length (ran .accepted)
+      → (at′ : ℕ) → at′ ≤ length file → drop at′ file ≡ drop stretchBytes left → MidListing file text₀ text′ (ran .ledger) at′ mid (ran .refusal)
   lines-on {text′} {mid} w short at′ inside same =
       let fits : len + length (linesOf (ran .accepted)) ≤ length text = omega (arith, stretch-fits, w .ends) in
       record {
-        few = counts .few;
+        few = after-it .few;
         in-file = inside;
         room = rw (w .as-many, same) (room-on mid short);
         end-room = rw (w .as-many) (refusal-fits mid short);
@@ -249,23 +183,23 @@ module _ {file text₀ text : List ℕ} {l : Ledger} {at len : ℕ} (h : MidList
         so-far =
             h .so-far
             ∙ rw (rest-on, same, line-stands w fits)
-            (sym (append-assoc (take len text) (linesOf (ran .accepted)) (restText (ran .refusal) (ran .ledger) (drop 1536 left))));
+            (sym (append-assoc (take len text) (linesOf (ran .accepted)) (restText (ran .refusal) (ran .ledger) (drop stretchBytes left))));
       }
 
   -- What the run answers and leaves in the output; its lines are written from there.
-  module _ {o : Outcome} (out : List ℕ) {out′ : List ℕ} (size : length out ≡ 1536) (answered : o ≡ outcomeOf ran) (put-out : out′ ≡ outOf ran out) where
+  module _ {o : Outcome} (out : List ℕ) {out′ : List ℕ} (size : length out ≡ stretchBytes) (answered : o ≡ outcomeOf ran) (put-out : out′ ≡ outOf ran out) where
     counted : o .accepted ≡ length (ran .accepted)
     unfolding outcomeOf
     counted = ap (λ (x : Outcome). x .accepted) answered
 
-    pub output-stays : length out′ ≡ 1536
-    output-stays = ap length put-out ∙ output-size out size
+    pub output-stays : length out′ ≡ stretchBytes
+    output-stays = ap length put-out ∙ output-size l left (h .few) out size
 
-    pub lines-fit : (48 * o .accepted ≤ length out′) × (len + 90 * o .accepted ≤ length text)
-    lines-fit = (omega (arith, output-stays, counted, output-fits), omega (arith, counted, stretch-fits))
+    pub lines-fit : (recordBytes * o .accepted ≤ length out′) × (len + lineBytes * o .accepted ≤ length text)
+    lines-fit = (omega (arith, output-stays, counted, output-fits l left (h .few)), omega (arith, counted, stretch-fits))
 
-    pub stretch-on : {text′ : List ℕ} {mid : ℕ} → Writes text len (outputLines out′ (o .accepted)) text′ mid → mid ≤ len + 90 * o .accepted
-        → (at′ : ℕ) → at′ ≤ length file → drop at′ file ≡ drop 1536 left → MidListing file text₀ text′ (o .ledger) at′ mid (o .refusal)
+    pub stretch-on : {text′ : List ℕ} {mid : ℕ} → Writes text len (outputLines out′ (o .accepted)) text′ mid → mid ≤ len + lineBytes * o .accepted
+        → (at′ : ℕ) → at′ ≤ length file → drop at′ file ≡ drop stretchBytes left → MidListing file text₀ text′ (o .ledger) at′ mid (o .refusal)
     unfolding outcomeOf
     stretch-on w short at′ inside same =
         let said = rw (put-out, counted, lines-are out) at w in

@@ -6,13 +6,11 @@ use mathlib.Core.List.{List, [], _∷_, _++_}
 use Prim.Native.Nat.{ℕ, _+_, _*_, _≤_}
 use lib.Dec.{eqb, leb}
 use lib.ListN.{length, take, drop}
-use Rattle.record.specs.Fields.{recordBytes}
 use Rattle.carbon.specs.Carbon.{mostRecords}
-use Rattle.ledger.specs.Step.{fresh}
 use Rattle.ledger.specs.Take.{totalStock}
-use Rattle.run.specs.History.{Turn, recordsOf, Run, runOf}
+use Rattle.run.specs.History.{Turn, recordsOf, Run, wholeRun}
 use Rattle.ledger.specs.declared.answer.Answer.{Answer}
-use Rattle.line.specs.Line.{acceptedText, refusedText}
+use Rattle.line.specs.Line.{lineBytes, acceptedText, refusedText}
 use Rattle.lines.specs.declared.Listed.{Listed}
 
 -- The line of an accepted record: period, x0, figure, bound, total R. The period is the n of the ledger after it.
@@ -32,10 +30,6 @@ endText refusal place = cond (eqb refusal 0) [] (refusedText refusal place)
 unfoldable pub runText : (place : ℕ) → Run → List ℕ
 runText place r = linesOf (r .accepted) ++ endText (r .refusal) (place + length (r .accepted))
 
--- A run with room for every output record.
-unfoldable pub wholeRun : (file : List ℕ) → Run
-wholeRun file = runOf fresh (recordsOf file) (recordBytes * length (recordsOf file))
-
 -- The listing of a file; places count from 1.
 unfoldable pub listingOf : (file : List ℕ) → List ℕ
 listingOf file = runText 1 (wholeRun file)
@@ -44,9 +38,9 @@ listingOf file = runText 1 (wholeRun file)
 unfoldable pub mostLines : (records : ℕ) → ℕ
 mostLines records = cond (leb records (mostRecords + 1)) records (mostRecords + 1)
 
--- A line has at most 90 bytes, so a text has room that has 90 for every line.
+-- A text has room that has the bytes of a line for every line.
 unfoldable pub roomFor : (file : List ℕ) → ℕ
-roomFor file = 90 * mostLines (length (recordsOf file))
+roomFor file = lineBytes * mostLines (length (recordsOf file))
 
 -- With room, the length of the listing; without, the refusal 2.
 unfoldable pub listedOf : (file : List ℕ) (room : ℕ) → Listed

@@ -8,6 +8,8 @@ use stretch::write_listing;
 ghost use mathlib.Core.Path.{_≡_};
 ghost use Prim.Native.Nat.{_+_, _/_, _≤_};
 ghost use lib.ListN.{length};
+ghost use Rattle.record.specs.Fields.{recordBytes};
+ghost use Rattle.carbon.specs.Carbon.{mostRecords};
 ghost use Rattle.lines.specs.Listing.{mostLines, listedOf, textOf, LendableText};
 
 // The most lines that a file can have: one more than a ledger takes records.
@@ -21,20 +23,20 @@ pub struct Listed {
 
 // Answers the most lines that so many bytes of records can have.
 fn most_lines(bytes: usize) -> usize
-    ensures { λ r. ⌜ (r ≡ mostLines ((bytes + 47) / 48)) × (r ≤ 1201) ⌝ }
+    ensures { λ r. ⌜ (r ≡ mostLines ((bytes + 47) / recordBytes)) × (r ≤ mostRecords + 1) ⌝ }
 {
-    let begun = bytes / 48 + (bytes % 48 + 47) / 48;
+    let begun = bytes / record::BYTES + (bytes % record::BYTES + 47) / record::BYTES;
     if begun <= LINES { begun } else { LINES }
 }
 
-// Writes the listing of a file, from a fresh ledger, at the start of the text; the text needs 90 bytes for every line that there
-// can be, and with less it is refused with 2 and keeps its values.
+// Writes the listing of a file, from a fresh ledger, at the start of the text; the text needs the bytes of a line for every line that
+// there can be, and with less it is refused with 2 and keeps its values.
 pub fn listing(file: &[u8], text: &mut [u8]) -> Listed
     ensures { λ r. ⌜ r ≡ listedOf (now (file .entry)) (length (now (text .entry))) ⌝ }
     ensures { λ _. ⌜ now (text .exit) ≡ textOf (now (file .entry)) (now (text .entry)) ⌝ }
     ensures { λ r. ⌜ LendableText (r .length) (now (text .exit)) ⌝ }
 {
-    if text.len() < 90 * most_lines(file.len()) {
+    if text.len() < line::BYTES * most_lines(file.len()) {
         return Listed {
             length: 0,
             refusal: 2,

@@ -2,43 +2,28 @@
 ghost use Prim.Native.Nat.{_≤_};
 ghost use lib.ListN.{length};
 ghost use Rattle.lines.specs.Listing.{roomFor};
-ghost use Rattle.lines.specs.Stretches.{Stretch, Lists};
+ghost use Rattle.lines.specs.Outputs.{Lists};
 use crate::writing::put_end;
 use crate::writing::put_lines;
 use ledger::Ledger;
-
-// A file is run in stretches of so many bytes, so that what a run looks up once is paid once a stretch.
-const STRETCH: usize = 32 * Ledger::BYTES;
-
-// Answers where the stretch that starts at a place ends.
-fn stretch_end(file: &[u8], at: usize) -> usize
-    requires { ⌜ at ≤ length (now file) ⌝ }
-    ensures { λ r. ⌜ Stretch (now (file .entry)) at r ⌝ }
-{
-    if file.len() - at < STRETCH {
-        return file.len();
-    }
-    at + STRETCH
-}
 
 // Writes the listing of a file at the start of a text with room for it, and answers how many bytes it has.
 pub(crate) fn write_listing(file: &[u8], text: &mut [u8]) -> usize
     requires { ⌜ roomFor (now file) ≤ length (now text) ⌝ }
     ensures { λ r. ⌜ Lists (now (file .entry)) (now (text .entry)) (now (text .exit)) r ⌝ }
 {
-    let mut out = [0u8; STRETCH];
+    let mut out = [0u8; run::STRETCH];
     let mut ledger = Ledger::fresh();
     let mut at: usize = 0;
     let mut length: usize = 0;
     let mut refusal: u8 = 0;
     while (refusal == 0) & (at < file.len()) {
-        let end = stretch_end(file, at);
-        let ran = run::run(ledger, &file[at..end], &mut out);
-        length = put_lines(text, length, &out, ran.accepted);
-        let next = ran.ledger;
+        let ran = run::run_stretch(ledger, file, at, &mut out);
+        length = put_lines(text, length, &out, ran.outcome.accepted);
+        let next = ran.outcome.ledger;
         ledger = next;
-        refusal = ran.refusal;
-        at = end;
+        refusal = ran.outcome.refusal;
+        at = ran.end;
     }
     put_end(text, length, refusal, ledger.n as u64 + 1)
 }

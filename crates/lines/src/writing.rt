@@ -2,15 +2,16 @@
 ghost use mathlib.Core.Path.{_≡_};
 ghost use Prim.Native.Nat.{_+_, _*_, _≤_};
 ghost use lib.ListN.{length, take};
-ghost use Rattle.line.specs.Line.{padded, Lendable};
+ghost use Rattle.record.specs.Fields.{recordBytes};
+ghost use Rattle.line.specs.Line.{lineBytes, padded, Lendable};
 ghost use Rattle.line.specs.Writing.{Writes};
 ghost use Rattle.lines.specs.Listing.{endText};
-ghost use Rattle.lines.specs.Stretches.{outputText, outputLines, endRoom};
+ghost use Rattle.lines.specs.Outputs.{outputText, outputLines, endRoom};
 use line::Line;
 
 // Answers the line of the output record at a place.
 fn line_at(out: &[u8], at: usize) -> Line
-    requires { ⌜ at + 48 ≤ length (now out) ⌝ }
+    requires { ⌜ at + recordBytes ≤ length (now out) ⌝ }
     ensures { λ r. ⌜ r ≡ padded (outputText (now (out .entry)) at) ⌝ }
     ensures { λ r. ⌜ Lendable r ⌝ }
 {
@@ -37,14 +38,14 @@ fn put(text: &mut [u8], at: usize, line: Line) -> usize
 
 // Writes the lines of so many output records from a place on, and answers the place after them.
 pub(crate) fn put_lines(text: &mut [u8], at: usize, out: &[u8], count: u64) -> usize
-    requires { ⌜ (48 * count ≤ length (now out)) × (at + 90 * count ≤ length (now text)) ⌝ }
+    requires { ⌜ (recordBytes * count ≤ length (now out)) × (at + lineBytes * count ≤ length (now text)) ⌝ }
     ensures { λ r. ⌜ Writes (now (text .entry)) at (outputLines (now (out .entry)) count) (now (text .exit)) r ⌝ }
-    ensures { λ r. ⌜ r ≤ at + 90 * count ⌝ }
+    ensures { λ r. ⌜ r ≤ at + lineBytes * count ⌝ }
 {
     let mut end = at;
     let mut i: u64 = 0;
     while i < count {
-        end = put(text, end, line_at(out, 48 * i as usize));
+        end = put(text, end, line_at(out, record::BYTES * i as usize));
         i += 1;
     }
     end

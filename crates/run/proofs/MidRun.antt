@@ -1,6 +1,6 @@
 -- Where a run stands at the head of its loop, and how a turn and each end go from there.
 use mathlib.Core.Path.{_≡_, refl, sym, ap, _∙_}
-use mathlib.Core.Bool.{Bool, true, false, cond}
+use mathlib.Core.Bool.{Bool, true, false, not, cond}
 use mathlib.Core.List.{List, [], _∷_, _++_, append-assoc, append-nil}
 use Prim.Native.Nat.{ℕ, _+_, _-_, _*_, _/_, _≤_, _<_}
 use native.Mathlib.Decide.{ℕ-discrete}
@@ -9,7 +9,7 @@ use borrow.Author.Tests.{eq-eqb, ne-eqb, lt-ltb, ltb-true, ltb-false}
 use lib.Dec.{ltb}
 use lib.ListN.{length, take, drop, length-drop, length-append, length-take, take-append-drop, drop-of-length-le}
 use lib.Seq.{length-take-le, take-at, drop-at, drop-drop}
-use Rattle.numbers.specs.Eight.{eight}
+use Rattle.numbers.specs.Eight.{eight, everyOf}
 use Rattle.numbers.proofs.Eight.{every-not, every-each}
 use Rattle.record.specs.Fields.{recordBytes, kindOf, climateOf}
 use Rattle.record.specs.Ranges.{light}
@@ -21,9 +21,23 @@ use Rattle.ledger.specs.Take.{acceptedOf, outputRecord}
 use Rattle.refusal.specs.Reach.{reachOf, leftOver}
 use Rattle.run.specs.History.{Turn, outputs, recordsOf, runOf, outcomeOf, outOf}
 use Rattle.ledger.specs.declared.book.Ledger.{Ledger}
-use Rattle.ledger.proofs.Accepted.{accepted, was-sound, has-room, accepted-sound, room-alike, early, refused-early, refused-late}
+use Rattle.refusal.proofs.Laws.{earlyOf, first-early, first-late}
+use Rattle.ledger.proofs.Accepted.{accepted, was-sound, has-room, accepted-sound, room-alike}
 use Rattle.ledger.proofs.Take.{output-length}
 use Rattle.run.proofs.History.{no-records, first-record, stopped, onFrom, acceptedTurn, run-goes-on, run-stops, run-ends, on-from, outputs-length, outputs-join}
+
+-- The refusal that everything before the masses decides.
+abbrev pub early : Ledger → List ℕ → (room : ℕ) → Bool → ℕ
+early l bytes room good = earlyOf good (l .n) (l .kind) (l .climate) (l .year) bytes room
+
+module _ (l : Ledger) (bytes : List ℕ) (room : ℕ) where
+  refused-early : (early l bytes room (sound l) ≡ 0 → ⊥) → refusalOf l bytes room ≡ early l bytes room (sound l)
+  unfolding refusalOf
+  refused-early h = first-early (sound l) (l .n) (l .kind) (l .climate) (l .year) bytes room h
+
+  refused-late : early l bytes room (sound l) ≡ 0 → refusalOf l bytes room ≡ cond (not (everyOf (light bytes) 8)) 9 0
+  unfolding refusalOf
+  refused-late h = first-late (sound l) (l .n) (l .kind) (l .climate) (l .year) bytes room h
 
 -- The table entries are those of the record that stands at a place, if the ledger accepts it.
 abbrev pub Fit : List ℕ → Ledger → List ℕ → Type 0

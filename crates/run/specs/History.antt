@@ -1,10 +1,11 @@
 -- Document 01, 'One step', its last paragraph, and demand 3: records taken in turn. Runs, listings and offerings are read off it.
 use mathlib.Core.Bool.{Bool, cond}
 use mathlib.Core.List.{List, [], _∷_, _++_}
-use Prim.Native.Nat.{ℕ, zero, suc, _+_, _-_, _/_}
+use Prim.Native.Nat.{ℕ, zero, suc, _+_, _-_, _*_, _/_}
 use lib.Dec.{eqb}
 use lib.ListN.{length, take, drop}
 use Rattle.record.specs.Fields.{recordBytes}
+use Rattle.ledger.specs.Step.{fresh}
 use Rattle.ledger.specs.Take.{takeOf, outputRecord}
 use Rattle.ledger.specs.declared.book.Ledger.{Ledger}
 use Rattle.ledger.specs.declared.answer.Answer.{Answer}
@@ -87,3 +88,7 @@ outOf r out = outputs (r .accepted) ++ drop (length (outputs (r .accepted))) out
 -- What the entry answers of a run.
 unfoldable pub outcomeOf : Run → Outcome
 outcomeOf r = record { ledger = r .ledger; accepted = length (r .accepted); refusal = r .refusal }
+
+-- A file run from a fresh ledger, with room for every output record.
+unfoldable pub wholeRun : (file : List ℕ) → Run
+wholeRun file = runOf fresh (recordsOf file) (recordBytes * length (recordsOf file))

@@ -1,4 +1,10 @@
 // Whole runs: 'One step' of document 01, its last paragraph. A file of records is taken one after another, from any ledger.
+mod stretch;
+
+pub use stretch::STRETCH;
+pub use stretch::Stretched;
+pub use stretch::run_stretch;
+pub use stretch::whole_run;
 ghost use mathlib.Core.Bool.{true};
 ghost use mathlib.Core.Path.{_≡_};
 ghost use lib.ListN.{length, take};

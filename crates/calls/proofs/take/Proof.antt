@@ -12,22 +12,22 @@ use Rattle.calls.proofs.take.Statement.{statement}
 use Rattle.calls.proofs.take.Tie as tie
 
 -- the answer of the step, and what it leaves in the output
-abbrev start : tie.After-take → tie.Start
+abbrev start : tie.After-take-one → tie.Start
 start c = c .before .before .before .before .before .before .before .before .before
 
-done : (c : tie.After-take) → let s = start c .args in
-    c .take .result ≡ takeHere (now (s .image)) (s .«record» .now) (now (s .out)) (now (s .answer))
+done : (c : tie.After-take-one) → let s = start c .args in
+    c .take-one .result ≡ takeHere (now (s .image)) (s .«record» .now) (now (s .out)) (now (s .answer))
 done c =
     let s = start c .args in
     let room = c .before .before .before .before .room in
-    (rw (c .before .before .read .ensures) at (c .take .ensures .0)) ∙ step-is (now (s .image)) (s .«record» .now) (now (s .out)) (now (s .answer)) (room .result) (room .ensures)
+    (rw (c .before .before .read .ensures) at (c .take-one .ensures .0)) ∙ step-is (now (s .image)) (s .«record» .now) (now (s .out)) (now (s .answer)) (room .result) (room .ensures)
 
-written : (c : tie.After-take) → let s = start c .args in
-    c .take .last .1 .1 .0 ++ drop (c .before .before .before .before .room .result) (now (s .out)) ≡ takeOut (now (s .image)) (s .«record» .now) (now (s .out)) (now (s .answer))
+written : (c : tie.After-take-one) → let s = start c .args in
+    c .take-one .last .1 .1 .0 ++ drop (c .before .before .before .before .room .result) (now (s .out)) ≡ takeOut (now (s .image)) (s .«record» .now) (now (s .out)) (now (s .answer))
 written c =
     let s = start c .args in
     let room = c .before .before .before .before .room in
-    out-is (now (s .image)) (s .«record» .now) (now (s .out)) (now (s .answer)) (room .result) (room .ensures) (rw (c .before .before .read .ensures) at (c .take .ensures .1))
+    out-is (now (s .image)) (s .«record» .now) (now (s .out)) (now (s .answer)) (room .result) (room .ensures) (rw (c .before .before .read .ensures) at (c .take-one .ensures .1))
 
 -- the answer that is left
 said : (c : tie.After-write-answer) → let s = start (c .before .before .before .before) .args in

@@ -13,8 +13,8 @@ use lib.ListN.{length, take, drop}
 use Rattle.record.specs.Ranges.{light}
 use Rattle.ledger.specs.Refusal.{refusalOf}
 use Rattle.ledger.specs.Take.{acceptedOf, outputRecord}
-use Rattle.ledger.proofs.Accepted.{room-alike, early}
-use Rattle.run.proofs.MidRun.{MidRun, run-starts, lent-length, lent-back, reach-within, next-within, at-last, at-early, at-heavy, no-refusal, turn-on, Ends, may-settle}
+use Rattle.ledger.proofs.Accepted.{room-alike}
+use Rattle.run.proofs.MidRun.{MidRun, early, run-starts, lent-length, lent-back, reach-within, next-within, at-last, at-early, at-heavy, no-refusal, turn-on, Ends, may-settle}
 use Rattle.run.proofs.run.Statement.{statement}
 use Rattle.run.proofs.run.Tie as tie
 

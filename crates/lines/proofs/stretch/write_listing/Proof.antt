@@ -11,7 +11,7 @@ use Rattle.lines.proofs.stretch.write_listing.Statement.{statement}
 use Rattle.lines.proofs.stretch.write_listing.Tie as tie
 
 abbrev Inv-loop : tie.InvT-loop
-Inv-loop file text₀ out₀ ledger₀ at₀ len₀ refusal₀ text out ledger at len refusal = (MidListing file text₀ text ledger at len refusal) × (length out ≡ 1536)
+Inv-loop file text₀ out₀ ledger₀ at₀ len₀ refusal₀ text out ledger at len refusal = (MidListing file text₀ text ledger at len refusal) × (length out ≡ stretchBytes)
 
 abbrev μ-loop : tie.MeasureT-loop
 μ-loop file text₀ out₀ ledger₀ at₀ len₀ refusal₀ text out ledger at len refusal = length file - at

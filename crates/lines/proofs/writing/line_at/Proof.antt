@@ -7,7 +7,7 @@ use borrow.Author.Needs.{needs}
 use Rattle.numbers.specs.Bytes.{numberAt}
 use Rattle.line.specs.declared.form.Line.{Line}
 use Rattle.line.specs.Line.{acceptedText, padded}
-use Rattle.lines.specs.Stretches.{outputText}
+use Rattle.lines.specs.Outputs.{outputText}
 use Rattle.lines.proofs.writing.line_at.Statement.{statement}
 use Rattle.lines.proofs.writing.line_at.Tie as tie
 

@@ -8,7 +8,7 @@ use Rattle.line.specs.Line.{refusedText}
 use Rattle.line.specs.Writing.{Writes}
 use Rattle.line.proofs.Line.{line-is}
 use Rattle.lines.specs.Listing.{endText}
-use Rattle.lines.specs.Stretches.{endRoom}
+use Rattle.lines.specs.Outputs.{endRoom}
 use Rattle.lines.proofs.writing.put_end.Statement.{statement}
 use Rattle.lines.proofs.writing.put_end.Tie as tie
 

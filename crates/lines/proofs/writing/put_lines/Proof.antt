@@ -7,7 +7,7 @@ use borrow.Author.Needs.{needs}
 use Rattle.line.specs.Writing.{Writes}
 use Rattle.line.proofs.Line.{line-is}
 use Rattle.line.proofs.Writing.{write-on}
-use Rattle.lines.specs.Stretches.{outputText, outputLines}
+use Rattle.lines.specs.Outputs.{outputText, outputLines}
 use Rattle.lines.proofs.writing.put_lines.Statement.{statement}
 use Rattle.lines.proofs.writing.put_lines.Tie as tie
 

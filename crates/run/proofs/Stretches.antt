@@ -1,0 +1,144 @@
+-- The run of what is left of a file is the run of its first stretch and, where that refuses nothing, the run of the rest.
+use mathlib.Core.Path.{_≡_, refl, sym, ap, subst, _∙_}
+use mathlib.Core.Bool.{Bool, true, false, cond, _&&_}
+use mathlib.Core.List.{List, [], _++_, append-nil}
+use Prim.Native.Nat.{ℕ, _-_, _*_, _≤_, _<_}
+use native.Mathlib.Decide.{decLe, ℕ-discrete}
+use native.Mathlib.Omega.{arith}
+use borrow.Author.Tests.{eqb-true, ltb-true, ltb-false, eq-eqb, ne-eqb}
+use lib.Dec.{T, eqb, ltb}
+use lib.ListN.{length, take, drop, length-drop, length-append, length-take, take-append-drop}
+use lib.Seq.{length-take-le, take-all}
+use Rattle.record.specs.Fields.{recordBytes}
+use Rattle.carbon.specs.Carbon.{mostRecords}
+use Rattle.ledger.specs.Step.{fresh}
+use Rattle.ledger.specs.declared.book.Ledger.{Ledger}
+use Rattle.run.specs.History.{recordsOf, Run, runOf, outOf, outcomeOf, wholeRun}
+use Rattle.run.specs.Stretches.{stretchBytes, stretchRun}
+use Rattle.run.specs.declared.Outcome.{Outcome}
+use Rattle.run.proofs.History.{no-records, records-join, records-count, onFrom, run-ends, run-join, run-refused, run-roomy, Counts, run-counts, run-most, outputs-length}
+
+-- What the test at the head of a loop over stretches says: nothing is refused, and bytes are left.
+pub goes : (refusal at size : ℕ) → (eqb refusal 0 && ltb at size) ≡ true → (refusal ≡ 0) × (at < size)
+goes refusal at size e = (eqb-true refusal 0 (both (eqb refusal 0) (ltb at size) e .0), ltb-true at size (both (eqb refusal 0) (ltb at size) e .1))
+  where
+    both : (p q : Bool) → (p && q) ≡ true → (p ≡ true) × (q ≡ true)
+    both true q e = (refl, e)
+    both false q e = absurd (subst T (sym e) tt)
+
+pub no-more : (refusal at size : ℕ) → (eqb refusal 0 && ltb at size) ≡ false → refusal ≡ 0 → size ≤ at
+no-more refusal at size e z = ltb-false at size (simp (eq-eqb refusal 0 z) at e)
+
+-- The first stretch of a file is 32 records, or all of them.
+stretch-records : (file : List ℕ) → recordsOf file ≡ recordsOf (take stretchBytes file) ++ recordsOf (drop stretchBytes file)
+stretch-records file = by-size (decLe stretchBytes (length file))
+  where
+    by-size : Dec (stretchBytes ≤ length file) → recordsOf file ≡ recordsOf (take stretchBytes file) ++ recordsOf (drop stretchBytes file)
+    by-size (yes long) =
+        ap recordsOf (sym (take-append-drop stretchBytes file))
+        ∙ records-join 32 (take stretchBytes file) (drop stretchBytes file) (length-take-le stretchBytes file long) .0
+    by-size (no short) =
+        rw (
+          take-all stretchBytes file (omega arith),
+          no-records (drop stretchBytes file) (simp length-drop (omega arith)),
+          append-nil,
+        )
+
+-- The run of what is left of a file, with room for every output record.
+abbrev pub restRun : Ledger → List ℕ → Run
+restRun l left = runOf l (recordsOf left) (recordBytes * length (recordsOf left))
+
+module _ (l : Ledger) (left : List ℕ) (few : l .n ≤ mostRecords) where
+  abbrev stretch : List (List ℕ)
+  stretch = recordsOf (take stretchBytes left)
+
+  abbrev ran : Run
+  ran = stretchRun l left
+
+  stretch-few : length stretch ≤ 32
+  stretch-few = omega (arith, records-count (take stretchBytes left), length-take stretchBytes left)
+
+  pub counts : Counts l stretch ran
+  counts = run-counts l stretch stretchBytes few
+
+  pub output-fits : recordBytes * length (ran .accepted) ≤ stretchBytes
+  output-fits = omega (arith, stretch-few, run-most l stretch ran counts)
+
+  pub output-size : (out : List ℕ) → length out ≡ stretchBytes → length (outOf ran out) ≡ stretchBytes
+  unfolding outOf
+  output-size out size = simp (length-append, length-drop) (omega (arith, outputs-length (ran .accepted), output-fits))
+
+  pub all-records : length (recordsOf left) ≡ length stretch + length (recordsOf (drop stretchBytes left))
+  all-records = ap length (stretch-records left) ∙ length-append stretch (recordsOf (drop stretchBytes left))
+
+  pub stretch-most : length (ran .accepted) ≤ length (recordsOf left)
+  stretch-most = omega (arith, all-records, run-most l stretch ran counts)
+
+  -- the same run with the room of the whole
+  same-run : runOf l stretch (recordBytes * length (recordsOf left)) ≡ ran
+  same-run = run-roomy l stretch (recordBytes * length (recordsOf left)) stretchBytes (omega (arith, all-records)) (omega (arith, stretch-few))
+
+  rest-is : restRun l left ≡ runOf l (stretch ++ recordsOf (drop stretchBytes left)) (recordBytes * length (recordsOf left))
+  rest-is = ap (λ (rs : List (List ℕ)). runOf l rs (recordBytes * length (recordsOf left))) (stretch-records left)
+
+  -- What is left goes on after a stretch that is accepted,
+  pub goes-on : ran .refusal ≡ 0 → restRun l left ≡ onFrom (ran .accepted) (restRun (ran .ledger) (drop stretchBytes left))
+  goes-on none =
+      let room : recordBytes * length (recordsOf left) - recordBytes * length stretch ≡ recordBytes * length (recordsOf (drop stretchBytes left))
+      = omega (arith, all-records) in
+      rest-is
+      ∙ run-join l stretch (recordsOf (drop stretchBytes left)) (recordBytes * length (recordsOf left)) (ap (λ (r : Run). r .refusal) same-run ∙ none)
+      ∙ rw (same-run, room)
+
+  -- and ends in a stretch in which a record is refused.
+  pub ends-here : (ran .refusal ≡ 0 → ⊥) → restRun l left ≡ ran
+  ends-here some =
+      rest-is
+      ∙ run-refused l stretch (recordsOf (drop stretchBytes left)) (recordBytes * length (recordsOf left)) (λ z. some (sym (ap (λ (r : Run). r .refusal) same-run) ∙ z))
+      ∙ same-run
+
+-- How a run from a fresh ledger ends: n counts the accepted records.
+abbrev endOf : Run → Outcome
+endOf r = record { ledger = r .ledger; accepted = r .ledger .n; refusal = r .refusal }
+
+-- The end of the whole is the end of what is left, or that of the record that was refused.
+abbrev restEnd : (refusal : ℕ) → Ledger → List ℕ → Outcome
+restEnd refusal l left = cond (eqb refusal 0) (endOf (restRun l left)) (record { ledger = l; accepted = l .n; refusal = refusal })
+
+pub record MidWhole (file : List ℕ) (l : Ledger) (at refusal : ℕ) : Type 0 where
+  pub few : l .n ≤ mostRecords
+  pub in-file : at ≤ length file
+  pub so-far : outcomeOf (wholeRun file) ≡ restEnd refusal l (drop at file)
+
+pub whole-starts : (file : List ℕ) → MidWhole file fresh 0 0
+unfolding wholeRun outcomeOf fresh
+whole-starts file =
+    let c = run-counts fresh (recordsOf file) (recordBytes * length (recordsOf file)) (omega arith) in
+    record {
+      few = omega arith;
+      in-file = omega arith;
+      so-far = λ i. record { ledger = wholeRun file .ledger; accepted = sym (c .n) i; refusal = wholeRun file .refusal };
+    }
+
+pub whole-goes-on : {file : List ℕ} {l : Ledger} {at : ℕ} (h : MidWhole file l at 0) {o : Outcome} → o ≡ outcomeOf (stretchRun l (drop at file))
+    → (at′ : ℕ) → at′ ≤ length file → drop at′ file ≡ drop stretchBytes (drop at file) → MidWhole file (o .ledger) at′ (o .refusal)
+unfolding outcomeOf
+whole-goes-on {file} {l} {at} h e at′ inside same =
+    rw (e, same) (record { few = counts l (drop at file) (h .few) .few; in-file = inside; so-far = h .so-far ∙ by-refusal (ℕ-discrete (ran .refusal) 0) })
+  where
+    abbrev ran : Run
+    ran = stretchRun l (drop at file)
+
+    by-refusal : Dec (ran .refusal ≡ 0) → endOf (restRun l (drop at file)) ≡ restEnd (ran .refusal) (ran .ledger) (drop stretchBytes (drop at file))
+    by-refusal (yes z) = simp (eq-eqb (ran .refusal) 0 z) (ap endOf (goes-on l (drop at file) (h .few) z))
+    by-refusal (no z) = simp (ne-eqb (ran .refusal) 0 z) (ap endOf (ends-here l (drop at file) (h .few) z))
+
+pub whole-ends : {file : List ℕ} {l : Ledger} {at refusal : ℕ} → MidWhole file l at refusal → (refusal ≡ 0 → length file ≤ at)
+    → record { ledger = l; accepted = l .n; refusal = refusal } ≡ outcomeOf (wholeRun file)
+whole-ends {file} {l} {at} {refusal} h last = sym (h .so-far ∙ by-refusal (ℕ-discrete refusal 0))
+  where
+    by-refusal : Dec (refusal ≡ 0) → restEnd refusal l (drop at file) ≡ record { ledger = l; accepted = l .n; refusal = refusal }
+    by-refusal (yes z) =
+        let gone : recordsOf (drop at file) ≡ [] = no-records (drop at file) (simp length-drop (omega (arith, last z))) in
+        simp (eq-eqb refusal 0 z) (rw (gone, run-ends, z))
+    by-refusal (no z) = simp (ne-eqb refusal 0 z)

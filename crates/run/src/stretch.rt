@@ -1,0 +1,65 @@
+// A file in stretches, so that no caller has to lend an output buffer for all of it, and what a run looks up once is paid once a stretch.
+ghost use mathlib.Core.Path.{_≡_};
+ghost use Prim.Native.Nat.{_≤_};
+ghost use lib.ListN.{length, drop};
+ghost use Rattle.run.specs.History.{outcomeOf, outOf, wholeRun};
+ghost use Rattle.run.specs.Stretches.{stretchBytes, Stretch, stretchRun};
+use crate::Outcome;
+use crate::run;
+use ledger::Ledger;
+
+// The bytes of a stretch, and of its output records.
+pub const STRETCH: usize = 32 * Ledger::BYTES;
+
+// How the run of a stretch ends, and the place after the stretch.
+pub struct Stretched {
+    pub outcome: Outcome,
+    pub end: usize,
+}
+
+// Answers where the stretch that starts at a place ends.
+fn stretch_end(file: &[u8], at: usize) -> usize
+    requires { ⌜ at ≤ length (now file) ⌝ }
+    ensures { λ r. ⌜ Stretch (now (file .entry)) at r ⌝ }
+{
+    if file.len() - at < STRETCH {
+        return file.len();
+    }
+    at + STRETCH
+}
+
+// Runs the stretch of a file that starts at a place, and writes its output records at the start of the output.
+pub fn run_stretch(ledger: Ledger, file: &[u8], at: usize, out: &mut [u8]) -> Stretched
+    requires { ⌜ at ≤ length (now file) ⌝ }
+    requires { ⌜ length (now out) ≡ stretchBytes ⌝ }
+    ensures { λ r. ⌜ r .outcome ≡ outcomeOf (stretchRun ledger (drop at (now (file .entry)))) ⌝ }
+    ensures { λ _. ⌜ now (out .exit) ≡ outOf (stretchRun ledger (drop at (now (file .entry)))) (now (out .entry)) ⌝ }
+    ensures { λ r. ⌜ Stretch (now (file .entry)) at (r .end) ⌝ }
+{
+    let end = stretch_end(file, at);
+    let outcome = run(ledger, &file[at..end], out);
+    Stretched { outcome, end }
+}
+
+// Answers the ledger, the number of accepted records and the refusal with which a file ends that is run from a fresh ledger with room
+// for every output record; none of these is kept.
+pub fn whole_run(file: &[u8]) -> Outcome
+    ensures { λ r. ⌜ r ≡ outcomeOf (wholeRun (now (file .entry))) ⌝ }
+{
+    let mut out = [0u8; STRETCH];
+    let mut ledger = Ledger::fresh();
+    let mut at: usize = 0;
+    let mut refusal: u8 = 0;
+    while (refusal == 0) & (at < file.len()) {
+        let ran = run_stretch(ledger, file, at, &mut out);
+        let next = ran.outcome.ledger;
+        ledger = next;
+        refusal = ran.outcome.refusal;
+        at = ran.end;
+    }
+    Outcome {
+        ledger,
+        accepted: ledger.n as u64,
+        refusal,
+    }
+}
