@@ -10,9 +10,9 @@ use Rattle.ledger.specs.Take.{takeOf, acceptedOf, outputFields}
 use Rattle.ledger.specs.declared.book.Ledger.{Ledger}
 use Rattle.ledger.proofs.Accepted as step
 use Rattle.ledger.proofs.Take.{taken, take-refusal}
-use Rattle.run.specs.History.{recordsOf, runOf}
+use Rattle.run.specs.History.{recordsOf, runOf, wholeRun}
 use Rattle.run.proofs.History.{run-roomy}
-use Rattle.lines.specs.Listing.{answerText, runText, wholeRun, listingOf}
+use Rattle.lines.specs.Listing.{answerText, runText, listingOf}
 use Rattle.promise_listing.specs.SaysOwn.{SaysOwn}
 use Rattle.promise_listing.specs.Promise.{ListingPromise}
 
