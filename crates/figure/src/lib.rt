@@ -4,10 +4,11 @@ ghost use mathlib.Core.Bool.{true};
 ghost use mathlib.Core.Path.{_≡_};
 ghost use Prim.Native.Nat.{ℕ, _+_, _-_, _*_, _/_, _^_, _≤_, _<_};
 ghost use lib.ListN.{getD};
-ghost use Rattle.record.specs.Fields.{factorsOf};
+ghost use Rattle.numbers.specs.Eight.{sumOf};
+ghost use Rattle.record.specs.Fields.{kindOf, climateOf, factorsOf};
 ghost use Rattle.record.specs.Ranges.{inRange};
 ghost use Rattle.carbon.specs.Carbon.{mostBrought};
-ghost use Rattle.figure.specs.Figure.{figureOf, marginOf, BOf, boundOf, filedOf};
+ghost use Rattle.figure.specs.Figure.{figureOf, marginOf, BOf, boundOf};
 use output::Output;
 use record::Factors;
 
@@ -87,7 +88,16 @@ pub fn bound(factors: Factors, margins: u64) -> u64
 pub fn filed(n: u16, bytes: &[u8], x0: u64, brought: [u64; 8], stock: [u64; 8]) -> Output
     requires { ⌜ inRange (factorsOf (now bytes)) ≡ true ⌝ }
     requires { ⌜ ((t : ℕ) → (t < 8 → (getD brought t 0 ≤ mostBrought) × (getD stock t 0 ≤ mostBrought))) ⌝ }
-    ensures { λ r. ⌜ r ≡ filedOf n (now (bytes .entry)) x0 (λ t. getD brought t 0) (λ t. getD stock t 0) ⌝ }
+    ensures { λ r. ⌜ r ≡ record {
+      period = n;
+      kind = kindOf (now (bytes .entry));
+      climate = climateOf (now (bytes .entry));
+      x0 = x0;
+      figure = figureOf (factorsOf (now (bytes .entry))) x0;
+      bound = boundOf (factorsOf (now (bytes .entry))) (BOf n (λ t. getD brought t 0));
+      stock = sumOf (λ t. getD stock t 0) 8;
+      brought = sumOf (λ t. getD brought t 0) 8;
+    } ⌝ }
 {
     let factors = Factors::of(bytes);
     Output {

@@ -1,10 +1,11 @@
 -- Laws of a step that callers use instead of its definition.
 use mathlib.Core.Path.{_≡_, refl, ap, sym, _∙_}
-use mathlib.Core.List.{List}
+use mathlib.Core.List.{List, _++_}
 use Prim.Native.Nat.{ℕ, _+_}
 use native.Mathlib.Decide.{ℕ-discrete}
 use borrow.Author.Tests.{ne-eqb}
-use lib.ListN.{length}
+use lib.ListN.{length, drop}
+use Rattle.record.specs.Fields.{recordBytes}
 use Rattle.ledger.specs.Step.{after}
 use Rattle.ledger.specs.Refusal.{refusalOf}
 use Rattle.output.specs.Output.{outputOf}
@@ -49,3 +50,14 @@ module _ (l : Ledger) (bytes : List ℕ) (room : ℕ) where
 pub refused-writes-nothing : (l : Ledger) (bytes out : List ℕ) → (refusalOf l bytes (length out) ≡ 0 → ⊥) → writtenOf l bytes out ≡ out
 unfolding writtenOf
 refused-writes-nothing l bytes out e = simp (ne-eqb (refusalOf l bytes (length out)) 0 e)
+
+-- A record that is refused by a number, and what an accepted one leaves in the output.
+module _ (l : Ledger) (bytes out : List ℕ) where
+  pub refused-by : (q : ℕ) → refusalOf l bytes (length out) ≡ q → (q ≡ 0 → ⊥) → (refusedOf l q ≡ takeOf l bytes (length out)) × (out ≡ writtenOf l bytes out)
+  refused-by q e ne =
+      let some : refusalOf l bytes (length out) ≡ 0 → ⊥ = λ z. ne (sym e ∙ z) in
+      (sym (not-taken l bytes (length out) some ∙ ap (refusedOf l) e), sym (refused-writes-nothing l bytes out some))
+
+  pub accepted-writes : refusalOf l bytes (length out) ≡ 0 → writtenOf l bytes out ≡ outputRecord (acceptedOf l bytes) ++ drop recordBytes out
+  unfolding writtenOf
+  accepted-writes e = rw e

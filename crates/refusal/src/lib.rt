@@ -20,7 +20,15 @@ fn is_continued(kind: u8, climate: u8, bytes: &[u8]) -> bool
 }
 
 // Answers the refusal that everything ahead of the masses (9) decides, 0 if none; `good` says whether the ledger is sound.
-pub fn early(n: u16, kind: u8, climate: u8, year: YearFactors, good: bool, bytes: &[u8], room: usize) -> u8
+pub fn early(
+    n: u16,
+    kind: u8,
+    climate: u8,
+    year: YearFactors,
+    good: bool,
+    bytes: &[u8],
+    room: usize,
+) -> u8
     ensures { λ r. ⌜ r ≡ firstOf (ahead 9 (faultsOf good n kind climate year (now (bytes .entry)) room)) ⌝ }
 {
     if bytes.len() != record::BYTES {
@@ -65,7 +73,15 @@ fn are_light(bytes: &[u8]) -> bool
 }
 
 // Answers the refusal of a record, 0 if none: the first fault of all.
-pub fn first(n: u16, kind: u8, climate: u8, year: YearFactors, good: bool, bytes: &[u8], room: usize) -> u8
+pub fn first(
+    n: u16,
+    kind: u8,
+    climate: u8,
+    year: YearFactors,
+    good: bool,
+    bytes: &[u8],
+    room: usize,
+) -> u8
     ensures { λ r. ⌜ r ≡ firstOf (faultsOf good n kind climate year (now (bytes .entry)) room) ⌝ }
 {
     let early = early(n, kind, climate, year, good, bytes, room);

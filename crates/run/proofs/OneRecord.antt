@@ -1,17 +1,17 @@
 -- A run of one record is the step: what it answers, and what it leaves in the output.
 use mathlib.Core.Path.{_≡_, refl, sym, ap, _∙_}
-use mathlib.Core.List.{List, [], _∷_, _++_, append-nil}
+use mathlib.Core.List.{List, [], _∷_, append-nil}
 use Prim.Native.Nat.{ℕ}
 use native.Mathlib.Decide.{ℕ-discrete}
 use borrow.Author.Tests.{ne-eqb}
-use lib.ListN.{length, drop}
+use lib.ListN.{length}
 use Rattle.record.specs.Fields.{recordBytes}
 use Rattle.refusal.specs.Refusal.{faultsOf}
 use Rattle.ledger.specs.Refusal.{refusalOf}
-use Rattle.ledger.specs.Take.{acceptedOf, refusedOf, takeOf, writtenOf, outputRecord}
+use Rattle.ledger.specs.Take.{acceptedOf, writtenOf}
 use Rattle.run.specs.History.{outputs, recordsOf, Run, runOf, outcomeOf, outOf}
 use Rattle.ledger.specs.declared.book.Ledger.{Ledger}
-use Rattle.ledger.proofs.Take.{not-taken, output-length, refused-writes-nothing}
+use Rattle.ledger.proofs.Take.{output-length, refused-writes-nothing}
 use Rattle.run.proofs.History.{one-record, stopped, onFrom, acceptedTurn, run-goes-on, run-stops, run-ends}
 
 module _ (l : Ledger) (bytes out : List ℕ) where
@@ -22,11 +22,6 @@ module _ (l : Ledger) (bytes out : List ℕ) where
   pub no-record : (length bytes ≡ recordBytes → ⊥) → refusalOf l bytes room ≡ 1
   unfolding refusalOf faultsOf
   no-record e = simp (ne-eqb (length bytes) recordBytes e)
-
-  pub refused-by : (q : ℕ) → refusalOf l bytes room ≡ q → (q ≡ 0 → ⊥) → (refusedOf l q ≡ takeOf l bytes room) × (out ≡ writtenOf l bytes out)
-  refused-by q e ne =
-      let some : refusalOf l bytes room ≡ 0 → ⊥ = λ z. ne (sym e ∙ z) in
-      (sym (not-taken l bytes room some ∙ ap (refusedOf l) e), sym (refused-writes-nothing l bytes out some))
 
   module _ (size : length bytes ≡ recordBytes) where
     abbrev pub oneRun : Run
@@ -57,7 +52,3 @@ module _ (l : Ledger) (bytes out : List ℕ) where
           | yes e ↦ rw (one-taken e, append-nil, output-length (acceptedOf l bytes), e)
           | no e ↦ rw (one-refused e) (sym (refused-writes-nothing l bytes out e))
         ]
-
-    pub one-output : refusalOf l bytes room ≡ 0 → writtenOf l bytes out ≡ outputRecord (acceptedOf l bytes) ++ drop recordBytes out
-    unfolding writtenOf
-    one-output e = rw e

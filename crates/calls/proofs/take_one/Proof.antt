@@ -13,9 +13,9 @@ use Rattle.ledger.specs.Take.{acceptedOf, outputRecord, outputFields}
 use Rattle.run.specs.declared.Outcome.{Outcome}
 use Rattle.ledger.proofs.Accepted.{Accepted, accepted, has-room}
 use Rattle.ledger.proofs.Step.{released-after, released-between}
-use Rattle.ledger.proofs.Take.{taken}
+use Rattle.ledger.proofs.Take.{taken, refused-by, accepted-writes}
 use Rattle.ledger.proofs.Fits.{output-says}
-use Rattle.run.proofs.OneRecord.{no-record, refused-by, one-refusal, one-ledger, one-written, one-output}
+use Rattle.run.proofs.OneRecord.{no-record, one-refusal, one-ledger, one-written}
 use Rattle.calls.proofs.take_one.Statement.{statement}
 use Rattle.calls.proofs.take_one.Tie as tie
 
@@ -37,7 +37,7 @@ output-is c =
     let a = c .before .before .before .before .before .before .before .before .before .args in
     c .before .before .before .before .run .ensures .1
     ∙ one-written (a .ledger) (a .bytes .now) (now (a .out)) (c .before .before .before .before .before .before .if1 .left)
-    ∙ one-output (a .ledger) (a .bytes .now) (now (a .out)) (c .before .before .before .before .before .before .if1 .left) (none c)
+    ∙ accepted-writes (a .ledger) (a .bytes .now) (now (a .out)) (none c)
 
 said : (c : tie.Else2) → let a = c .before .before .before .before .before .before .before .before .before .args in Says (outputFields (acceptedOf (a .ledger) (a .bytes .now))) (c .before .before .before .before .run .last .1 .1 .0)
 said c = let a = c .before .before .before .before .before .before .before .before .before .args in rw (output-is c) (output-says (a .ledger) (a .bytes .now) (ok c) (drop recordBytes (now (a .out))))

@@ -3,9 +3,31 @@ use Prim.Native.Nat.{ℕ}
 use borrow.Author.Needs.{needs}
 use lib.ListN.{getD}
 use Rattle.carbon.proofs.Laws.{sum-fits}
-use Rattle.figure.specs.Figure.{filedOf}
 use Rattle.figure.proofs.filed.Statement.{statement}
 use Rattle.figure.proofs.filed.Tie as tie
 
+returns : tie.Need-returns
+returns c =
+    let s = c .before .before .before .before .before .before .before .before .before in
+    let of = c .before .before .before .before .before .before .before .of .ensures in
+    let R = c .before .total .ensures in
+    let T = c .total2 .ensures in
+    simp (
+      c .before .before .before .before .before .before .kind .ensures,
+      c .before .before .before .before .before .climate .ensures,
+      c .before .before .before .before .figure .ensures,
+      c .before .before .bound .ensures,
+      c .before .before .before .margins .ensures,
+      of,
+      R,
+      T,
+      sum-fits (λ t. getD (s .args .stock) t 0) (λ t h. s .pre .1 t h .1),
+      sum-fits (λ t. getD (s .args .brought) t 0) (λ t h. s .pre .1 t h .0),
+    )
+
 pub filed-spec : {M : Type 1} → statement M
-filed-spec = tie.close (tie.spec ?)
+filed-spec =
+    tie.close
+    (tie.spec (λ c κs. search needs) (λ c κs. search needs) (λ c κs. search needs)
+    (λ c κs. rw (c .before .before .of .ensures) (c .before .before .before .before .pre .0))
+    (λ c κs. search needs) (λ c κs. search needs) (λ c κs. search needs) (λ c κs. search needs) returns)

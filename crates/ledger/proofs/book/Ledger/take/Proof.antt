@@ -1,91 +1,70 @@
--- A run of one record is the step; its releases are what was released since, and its numbers are read back from its output.
-use mathlib.Core.Path.{_≡_, sym, ap, _∙_}
-use mathlib.Core.List.{_++_}
-use Prim.Native.Nat.{_≤_}
+-- The first fault decides; an accepted record is entered with the entries of its own kind and climate, and its releases are what was
+-- released since.
+use mathlib.Core.Path.{_≡_, sym, _∙_}
+use mathlib.Core.List.{List}
+use Prim.Native.Nat.{ℕ, _-_}
 use native.Mathlib.Omega.{arith}
 use borrow.Author.Needs.{needs}
 use denote.Ref.{now}
-use lib.ListN.{length, drop}
-use Rattle.output.proofs.Laws.{Says}
+use lib.ListN.{length, getD}
+use Rattle.numbers.specs.Eight.{eight}
 use Rattle.ledger.specs.Refusal.{refusalOf}
-use Rattle.ledger.specs.Take.{acceptedOf, outputRecord, outputFields}
-use Rattle.ledger.specs.declared.answer.Outcome.{Outcome}
-use Rattle.ledger.proofs.Accepted.{Accepted, accepted, has-room}
+use Rattle.ledger.specs.Take.{acceptedOf, enteredOf, outputFields, takeOf}
+use Rattle.ledger.specs.declared.book.Ledger.{Ledger}
+use Rattle.ledger.specs.declared.answer.Entered.{Entered}
 use Rattle.ledger.proofs.Step.{released-after, released-between}
-use Rattle.ledger.proofs.Take.{taken}
-use Rattle.ledger.proofs.Fits.{output-says}
-use Rattle.ledger.proofs.OneRecord.{no-record, refused-by, one-refusal, one-ledger, one-written, one-output}
+use Rattle.ledger.proofs.Take.{taken, refused-by, accepted-writes}
 use Rattle.ledger.proofs.book.Ledger.take.Statement.{statement}
 use Rattle.ledger.proofs.book.Ledger.take.Tie as tie
 
--- the run's refusal is the record's
-found : (c : tie.After-run) → let a = c .before .before .before .before .before .args in c .run .result .refusal ≡ refusalOf (a .self) (a .bytes .now) (length (now (a .out)))
-found c =
-    let a = c .before .before .before .before .before .args in
-    ap (λ (o : Outcome). o .refusal) (c .run .ensures .0) ∙ one-refusal (a .self) (a .bytes .now) (now (a .out)) (c .before .before .if1 .left)
+abbrev start : tie.After-first → tie.Start
+start c = c .before .before .before .before .before
 
-none : (c : tie.Else2) → let a = c .before .before .before .before .before .before .before .before .before .args in refusalOf (a .self) (a .bytes .now) (length (now (a .out))) ≡ 0
-none c = sym (found (c .before .before .before .before)) ∙ c .if2 .left
+found : (c : tie.After-first) → let a = start c .args in c .first .result ≡ refusalOf (a .self) (a .bytes .now) (length (now (a .out)))
+unfolding refusalOf
+found c = rw (c .before .before .is-sound .ensures) at (c .first .ensures)
 
-ok : (c : tie.Else2) → let a = c .before .before .before .before .before .before .before .before .before .args in Accepted (a .self) (a .bytes .now)
-ok c = let a = c .before .before .before .before .before .before .before .before .before .args in accepted (a .self) (a .bytes .now) (length (now (a .out))) (none c)
-
--- what the run leaves in the output
-output-is : (c : tie.Else2) → let a = c .before .before .before .before .before .before .before .before .before .args in c .before .before .before .before .run .last .1 .1 .0 ≡ outputRecord (acceptedOf (a .self) (a .bytes .now)) ++ drop 48 (now (a .out))
-output-is c =
-    let a = c .before .before .before .before .before .before .before .before .before .args in
-    c .before .before .before .before .run .ensures .1
-    ∙ one-written (a .self) (a .bytes .now) (now (a .out)) (c .before .before .before .before .before .before .if1 .left)
-    ∙ one-output (a .self) (a .bytes .now) (now (a .out)) (c .before .before .before .before .before .before .if1 .left) (none c)
-
-said : (c : tie.Else2) → let a = c .before .before .before .before .before .before .before .before .before .args in Says (outputFields (acceptedOf (a .self) (a .bytes .now))) (c .before .before .before .before .run .last .1 .1 .0)
-said c = let a = c .before .before .before .before .before .before .before .before .before .args in rw (output-is c) (output-says (a .self) (a .bytes .now) (ok c) (drop 48 (now (a .out))))
-
-ledger-is : (c : tie.Else2) → let a = c .before .before .before .before .before .before .before .before .before .args in c .before .before .before .before .run .result .ledger ≡ acceptedOf (a .self) (a .bytes .now) .ledger
-ledger-is c =
-    let a = c .before .before .before .before .before .before .before .before .before .args in
-    ap (λ (o : Outcome). o .ledger) (c .before .before .before .before .run .ensures .0) ∙ one-ledger (a .self) (a .bytes .now) (now (a .out)) (c .before .before .before .before .before .before .if1 .left) (none c)
-
-room-left : (c : tie.Else2) → 48 ≤ length (now (c .before .before .before .before .before .before .before .before .before .args .out))
-room-left c = let a = c .before .before .before .before .before .before .before .before .before .args in has-room (a .self) (a .bytes .now) (length (now (a .out))) (none c)
+none : (c : tie.Else1) → let a = start (c .before) .args in refusalOf (a .self) (a .bytes .now) (length (now (a .out))) ≡ 0
+none c = sym (found (c .before)) ∙ c .if1 .left
 
 returns : tie.Need-returns
 returns c =
-    let a = c .before .before .before .before .args in
-    let r = refused-by (a .self) (a .bytes .now) (now (a .out)) 1 (no-record (a .self) (a .bytes .now) (now (a .out)) (c .before .if1 .taken)) (omega arith) in
+    let first = c .before .before in
+    let a = start first .args in
+    let r = refused-by (a .self) (a .bytes .now) (now (a .out)) (first .first .result) (sym (found first)) (c .before .if1 .taken) in
     (c .refused .ensures ∙ r .0, r .1)
+
+enter-requires : tie.Need-enter-requires
+enter-requires c κs =
+    (none (c .before .before .before .before), rw (← c .before .before .climate .ensures, ← c .before .before .before .kind .ensures) (c .before .entries .ensures))
+
+-- the test before an accepted record
+abbrev test : tie.After-enter → tie.Else1
+test e = e .before .before .before .before .before
+
+less-requires : tie.Need-less-requires
+unfolding enteredOf acceptedOf
+less-requires c κs t place =
+    let e = c .before .before .before .before .before in
+    let a = start (test e .before) .args in
+    rw (e .enter .ensures .0) (omega (arith, released-after (a .self) (a .bytes .now) t place))
+
+-- what is entered of an accepted record, with the releases, is the answer
+answer-is : (l : Ledger) (bytes : List ℕ) (room : ℕ) {e : Entered} {releases : List ℕ} → refusalOf l bytes room ≡ 0 → e ≡ enteredOf (acceptedOf l bytes)
+    → releases ≡ eight (λ t. getD (e .ledger .released) t 0 - getD (l .released) t 0)
+    → record { ledger = e .ledger; refusal = 0; releases = releases; x0 = e .says .x0; figure = e .says .figure; bound = e .says .bound } ≡ takeOf l bytes room
+unfolding enteredOf acceptedOf outputFields
+answer-is l bytes room none entered since = rw (taken l bytes room none, since, entered, released-between l bytes)
 
 returns-2 : tie.Need-returns-2
 returns-2 c =
-    let ran = c .before .before .before .before .before in
-    let a = ran .before .before .before .before .before .args in
-    let r = refused-by (a .self) (a .bytes .now) (now (a .out)) (ran .run .result .refusal) (sym (found ran)) (c .before .if2 .taken) in
-    (c .refused2 .ensures ∙ r .0, ran .run .ensures .1 ∙ one-written (a .self) (a .bytes .now) (now (a .out)) (ran .before .before .if1 .left))
-
--- what was released so far only grows
-less-requires : tie.Need-less-requires
-unfolding acceptedOf
-less-requires c κs t place =
-    let e = c .before .before .before in
-    let a = e .before .before .before .before .before .before .before .before .before .args in
-    rw (ledger-is e) (omega (arith, released-after (a .self) (a .bytes .now) t place))
-
-returns-3 : tie.Need-returns-3
-unfolding acceptedOf outputFields
-returns-3 c =
-    let e = c .before .before .before .before .before .before .before .before .before .before in
-    let a = e .before .before .before .before .before .before .before .before .before .args in
-    let says = said e in (
-      rw (taken (a .self) (a .bytes .now) (length (now (a .out))) (none e), c .before .before .before .before .before .before .less .ensures, ledger-is e, released-between (a .self) (a .bytes .now))
-          (rw (c .read-u643 .ensures, c .before .before .read-u642 .ensures, c .before .before .before .before .read-u64 .ensures, says .x0, says .figure, says .bound)),
-      e .before .before .before .before .run .ensures .1 ∙ one-written (a .self) (a .bytes .now) (now (a .out)) (e .before .before .before .before .before .before .if1 .left),
+    let e = c .before .before .before .before .before .before in
+    let a = start (test e .before) .args in (
+      answer-is (a .self) (a .bytes .now) (length (now (a .out))) (none (test e)) (e .enter .ensures .0) (c .less .ensures),
+      e .enter .ensures .1 ∙ sym (accepted-writes (a .self) (a .bytes .now) (now (a .out)) (none (test e))),
     )
 
 pub take-spec : {M : Type 1} → statement M
 take-spec =
     tie.close
-    (tie.spec (λ c κs. search needs) returns (λ c κs. search needs) (λ c κs. search needs) (λ c. search needs) returns-2 less-requires
-    (λ c κs. omega (arith, room-left (c .before .before .before .before .before)))
-    (λ c κs. omega (arith, room-left (c .before .before .before .before .before .before .before)))
-    (λ c κs. omega (arith, room-left (c .before .before .before .before .before .before .before .before .before)))
-    (λ c. search needs) returns-3)
+    (tie.spec (λ c κs. tt) (λ c κs. tt) (λ c κs. tt) returns (λ c κs. tt) (λ c κs. tt) (λ c κs. tt) enter-requires less-requires (λ c. search needs) returns-2)
