@@ -1,4 +1,4 @@
-/* The landfill ledger, for C and C++ on x86-64: link libabi.a.
+/* The landfill ledger, for C and C++ on x86-64: link liblandfill.a.
  *
  * A site's waste goes in as records of 48 bytes, one a year or one a month. Each accepted record gives the carbon that
  * the site released in that period, the figure in grams CO2e that goes into the methane estimate, and a bound on how far
@@ -198,8 +198,9 @@ enum {
  * An image that was kept before records had an m stays sound. An image that is kept now may be refused with 3 by a library
  * from before, whose ceiling on T has DOC 500 and 900 for types 7 and 8; and a record that has an m is refused by it with 5. */
 
-/* Refusals. A record is tested in the order of 1 to 8, then 17, then 9, a total with its samples in the order of 14 to 16,
- * uncertainties in that of 18 and 19, and a file to repair in that of 20 to 22; the first that holds is the answer. */
+/* Refusals. The first that holds is the answer, and they are tested in this order: for a record 1, 2, 3, 4, 5, 6, 7, 8, 17, 9;
+ * for a total with its samples 14, 15, 16; for uncertainties 18, 19; for a file to repair 20, 21, 22. The numbers may come to
+ * have gaps. */
 enum {
     LANDFILL_ACCEPTED = 0,           /* not refused */
     LANDFILL_NOT_48_BYTES = 1,       /* the record is not 48 bytes */
@@ -472,35 +473,38 @@ static inline double landfill_kg(double tonnes)
     return kg >= 0.0 && kg < 2000000000.0 ? (double)(uint32_t)(kg + 0.5) : kg;
 }
 
-/* A sentence for a refusal's number, to show to a person. */
+/* A sentence for a refusal's number, to show to a person. Any other number gets one that says that it is no refusal's. */
 static inline const char *landfill_refusal_text(unsigned refusal)
 {
-    static const char *const texts[] = {
-        "Accepted.",
-        "The record is not 48 bytes long.",
-        "There is too little room for the output.",
-        "The ledger is damaged, or is no ledger.",
-        "The ledger is full: it has 1200 records.",
-        "The kind, the climate or the site class is not a code, or bytes 14 and 15 are not zero.",
-        "The period is not the next in turn.",
-        "The kind or the climate is not that of the records before.",
-        "The correction factor, OX, F, DOCf, GWP, the captured share or the dry matter of sludge is outside its range.",
-        "A mass is over 1,000,000,000 kg.",
-        "The cell is empty.",
-        "The cell is not a whole number of kilograms.",
-        "The cell is below 0 or above 1,000,000,000 kg.",
-        "Figure and bound are too large to be drawn exactly.",
-        "The total is over 1,000,000,000 kg.",
-        "The kind is not a code, or the samples are not 12 to 400 whole ones for a year or 3 for a month.",
-        "The fractions of a sample do not add up to 100 percent.",
-        "The correction factor, the site class or the captured share is not that of the year's first month.",
-        "An uncertainty is over 100 percent.",
-        "A choice between the lower and the higher value is not 1 or 2.",
-        "The order does not name each of the eight types once.",
-        "The file is not whole records of 48 bytes.",
-        "There is too little room for the repaired file or for its report."
-    };
-    return refusal < sizeof texts / sizeof texts[0] ? texts[refusal] : "No refusal has this number.";
+    switch (refusal) {
+    case LANDFILL_ACCEPTED: return "Accepted.";
+    case LANDFILL_NOT_48_BYTES: return "The record is not 48 bytes long.";
+    case LANDFILL_NO_ROOM: return "There is too little room for the output.";
+    case LANDFILL_UNSOUND: return "The ledger is damaged, or is no ledger.";
+    case LANDFILL_FULL: return "The ledger is full: it has 1200 records.";
+    case LANDFILL_NOT_A_CODE: return "The kind, the climate or the site class is not a code, or bytes 14 and 15 are not zero.";
+    case LANDFILL_OUT_OF_TURN: return "The period is not the next in turn.";
+    case LANDFILL_OTHER_SERIES: return "The kind or the climate is not that of the records before.";
+    case LANDFILL_OUT_OF_RANGE:
+        return "The correction factor, OX, F, DOCf, GWP, the captured share or the dry matter of sludge is outside its range.";
+    case LANDFILL_MASS_TOO_LARGE: return "A mass is over 1,000,000,000 kg.";
+    case LANDFILL_CELL_EMPTY: return "The cell is empty.";
+    case LANDFILL_CELL_NOT_WHOLE: return "The cell is not a whole number of kilograms.";
+    case LANDFILL_CELL_OUTSIDE: return "The cell is below 0 or above 1,000,000,000 kg.";
+    case LANDFILL_POINT_TOO_LARGE: return "Figure and bound are too large to be drawn exactly.";
+    case LANDFILL_TOTAL_TOO_LARGE: return "The total is over 1,000,000,000 kg.";
+    case LANDFILL_NOT_THE_SAMPLES:
+        return "The kind is not a code, or the samples are not 12 to 400 whole ones for a year or 3 for a month.";
+    case LANDFILL_SAMPLE_NOT_WHOLE: return "The fractions of a sample do not add up to 100 percent.";
+    case LANDFILL_NOT_THE_YEARS:
+        return "The correction factor, the site class or the captured share is not that of the year's first month.";
+    case LANDFILL_OVER_100: return "An uncertainty is over 100 percent.";
+    case LANDFILL_NOT_A_CHOICE: return "A choice between the lower and the higher value is not 1 or 2.";
+    case LANDFILL_NOT_AN_ORDER: return "The order does not name each of the eight types once.";
+    case LANDFILL_NOT_WHOLE_RECORDS: return "The file is not whole records of 48 bytes.";
+    case LANDFILL_NO_ROOM_FOR_REPAIR: return "There is too little room for the repaired file or for its report.";
+    default: return "No refusal has this number.";
+    }
 }
 
 #ifdef __cplusplus

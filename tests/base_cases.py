@@ -8,7 +8,7 @@ import cases
 import reference
 from built import offer_in_year, run_case, run_in_year, step_case, step_in_year
 from cases import case
-from faults import FAULTS, Offer, applied, named, of_field
+from faults import FAULTS, OF_RECORD, ORDER, Offer, applied, named, of_field
 from histories import KINDS_AND_CLIMATES, PLACES, PLAIN, balanced, by_default, damaged, file_of, greatest_record, only
 from histories import plain_year, random_file, random_ledger, random_record, replaced
 from reference import BYTES, FRESH, MASS_LIMIT, NO_YEAR, RECORDS, Ledger, little, remembers, write_record
@@ -60,10 +60,11 @@ def steps_at_fault(rng):
         if one[0] != other[0] and one[1] != other[1]:
             pair = rng.choice(of_field(*one)), rng.choice(of_field(*other))
             yield offer_in_year(applied(fair_offer(rng), pair), named(*pair))
-    each = "length", "room", "R", "n", "site_class", "period", "kind", "GWP", "masses"
-    for least in range(1, 10):
-        rest = [rng.choice(of_field(number, field)) for number, field in enumerate(each, 1) if number >= least]
-        yield offer_in_year(applied(fair_offer(rng), rest), least)
+    each = {1: "length", 2: "room", 3: "R", 4: "n", 5: "site_class", 6: "period", 7: "kind", 8: "GWP", 9: "masses"}
+    numbers = [number for number in ORDER if number in each]
+    for place, first in enumerate(numbers):
+        rest = [rng.choice(of_field(number, each[number])) for number in numbers[place:]]
+        yield offer_in_year(applied(fair_offer(rng), rest), first)
 
 
 def steps_at_limits(rng):
@@ -157,9 +158,8 @@ def runs_by_rule(rng):
         yield run_in_year(FRESH, three[: BYTES + length], BYTES, (1, 1))
     yield run_in_year(unsound, three, 144, (0, 3))
     yield run_in_year(unsound, three, 47, (0, 2))
-    for fault in FAULTS:
-        if fault.number >= 5:
-            yield fault_after_one(rng, fault)
+    for fault in OF_RECORD:
+        yield fault_after_one(rng, fault)
     for kind, climate in KINDS_AND_CLIMATES:
         ledger = random_ledger(rng, kind, climate, 1197)
         yield run_in_year(ledger, random_file(rng, 1197, kind, climate, 3), 144, (3, 0))

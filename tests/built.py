@@ -6,7 +6,9 @@ import cases
 import reference
 from cases import case
 from histories import in_year_of, whole_records
-from reference import BYTES, MONTHLY, MONTHS, little, year_of
+from reference import BYTES, MONTHLY, MONTHS, REFUSALS, little, year_of
+
+AFTER_17 = REFUSALS["record"][REFUSALS["record"].index(17) + 1 :]
 
 
 def step_case(ledger, data, room=BYTES, expect=None):
@@ -54,10 +56,10 @@ def offer_in_year(offer, expect):
 
 
 def unless_changed(ledger, data, expect):
-    """The accepted count and the refusal, or 17 where a month changes its year's factors before; 9 comes after 17."""
+    """The accepted count and the refusal, or 17 where a month changes its year's factors before that is tested."""
     accepted, refusal = expect
     kept = kept_months(ledger, data)
-    return (kept, 17) if kept < accepted or (kept, 9) == (accepted, refusal) else expect
+    return (kept, 17) if kept < accepted or (kept == accepted and refusal in AFTER_17) else expect
 
 
 def kept_months(ledger, data):

@@ -6,10 +6,10 @@ from collections.abc import Callable
 from typing import NamedTuple
 
 from histories import PLACES, balanced, by_default, replaced
-from reference import BYTES, FRESH, MASS_LIMIT, RECORDS, Ledger, Record, little, write_record
+from reference import BYTES, FRESH, MASS_LIMIT, RECORDS, REFUSALS, Ledger, Record, little, write_record
 
 LAST = 2**64 - 1
-ORDER = (1, 2, 3, 4, 5, 6, 7, 8, 17, 9)  # in which a step tests its refusals
+ORDER = [number for tested in REFUSALS.values() for number in tested]  # in which refusals are tested
 
 
 class Offer(NamedTuple):
@@ -119,10 +119,11 @@ FAULTS = [
     *in_record(8, "f", 10001, 10240, 65535),
     *in_record(9, "masses", *(one_mass(j, kg) for j in PLACES for kg in (MASS_LIMIT + 1, 2**31, 2**32 - 1))),
 ]
+OF_RECORD = [fault for fault in FAULTS if fault.field in Record._fields]
 
 
 def named(*faults):
-    """The refusal that an offer with these faults meets."""
+    """The refusal that an offer, or what else is asked, meets with these faults."""
     met = {fault.number if fault.instead is None else fault.instead for fault in faults}
     return next((number for number in ORDER if number in met), 0)
 

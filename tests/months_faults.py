@@ -4,7 +4,7 @@ from itertools import combinations, product
 import cases
 import faults
 from built import offer_case, run_case, step_case
-from faults import Fault, Offer, applied, named, of_field
+from faults import OF_RECORD, Fault, Offer, applied, named, of_field
 from histories import RANGES, another, file_of, moved, next_record, next_records, random_ledger, random_year, sharing
 from histories import taken
 from reference import BYTES, CLIMATES, FRESH, KINDS, MONTHLY, MONTHS, NO_YEAR, RECORDS, YEARLY, Year, little
@@ -12,6 +12,7 @@ from reference import write_record
 
 EDGES = {"factor": (0, 1, 100, 101, 255), "site_class": (0, 1, 4, 5, 255), "f": (0, 10000, 10001, 65535)}
 FIELDS = dict.fromkeys((fault.number, fault.field) for fault in faults.FAULTS)  # with a fault, in their order
+FIELDS_OF_RECORD = dict.fromkeys((fault.number, fault.field) for fault in OF_RECORD)
 
 
 def offer_at(rng, n, kind=MONTHLY):
@@ -75,16 +76,15 @@ def at_fault(rng):
 def stopped(rng):
     """Months that would begin a year, with a fault: refused, they leave what is remembered. In runs too, then 17."""
     for number, field in FIELDS:
-        if number in (1, 2) or number >= 5:
+        if field in Offer._fields or (number, field) in FIELDS_OF_RECORD:
             offer, fault = offer_at(rng, MONTHS * rng.randint(1, 99)), rng.choice(of_field(number, field))
             yield offer_case(applied(offer, [fault]), named(fault))
     months = next_records(rng, FRESH, MONTHLY, rng.choice(CLIMATES), 14)
     begun, last = file_of(months[:12]), Offer(taken(FRESH, months[:12]), months[12])
-    for number, field in FIELDS:
-        if number >= 5:
-            fault = rng.choice(of_field(number, field))
-            data = begun + applied(last, [fault]).data() + file_of(months[13:])
-            yield run_case(FRESH, data, 14 * BYTES, (12, named(fault)) if named(fault) else (14, 0))
+    for number, field in FIELDS_OF_RECORD:
+        fault = rng.choice(of_field(number, field))
+        data = begun + applied(last, [fault]).data() + file_of(months[13:])
+        yield run_case(FRESH, data, 14 * BYTES, (12, named(fault)) if named(fault) else (14, 0))
     change = write_record(another(rng, months[12], "f")._replace(period=14))
     data = begun + last.data() + change
     yield run_case(FRESH, data + b"\0", 14 * BYTES, (13, 17))

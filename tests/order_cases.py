@@ -10,7 +10,7 @@ from typing import NamedTuple
 
 import reference
 from cases import LONGEST, case
-from faults import Fault, applied
+from faults import Fault, applied, named
 from histories import KINDS_AND_CLIMATES, PLACES, file_of, random_masses, random_record, replaced
 from reference import BYTES, MASSES, RECORDS, TYPES, little
 
@@ -267,10 +267,10 @@ FAULTS_AT_ONCE = [
 
 
 def at_fault(rng):
-    """Each fault alone, and each two, three and four of different fields: the lowest number is named."""
+    """Each fault alone, and each two, three and four of different fields: the one that is tested first is named."""
     for faults in FAULTS_AT_ONCE:
         asked = shuffled(random_order(rng), any_file(rng, 2), rng.choice((0, 1)), rng.choice((0, 1)))
-        yield repair_case(applied(asked, faults), (faults[0].number, 0))
+        yield repair_case(applied(asked, faults), (named(*faults), 0))
 
 
 def counted(rng):

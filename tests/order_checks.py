@@ -4,7 +4,7 @@ from itertools import permutations, product
 
 import retold
 from checks import check
-from faults import applied
+from faults import applied, named
 from order_cases import FAULTS_AT_ONCE, any_file, few, file_with, random_order, shuffled
 from reference import repair
 
@@ -89,7 +89,7 @@ def in_order(rng):
     """Several faults at once: 20 is named before 21, and 21 before 22."""
     for faults in FAULTS_AT_ONCE:
         asked = applied(shuffled(random_order(rng), any_file(rng, 2)), faults)
-        refused(faults[0].number, bytes(asked.order), asked.file, OUTPUT[: asked.room], REPORT[: asked.report])
+        refused(named(*faults), bytes(asked.order), asked.file, OUTPUT[: asked.room], REPORT[: asked.report])
 
 
 def kept(file):

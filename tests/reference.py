@@ -207,6 +207,15 @@ def run(ledger, data, output):
 
 # "Refusal numbers, tested in this order"
 
+REFUSALS = {  # every number that there is, by what is refused; they may have gaps
+    "record": (1, 2, 3, 4, 5, 6, 7, 8, 17, 9),
+    "cell": (10, 11, 12),
+    "point": (13,),
+    "samples": (14, 15, 16),
+    "uncertainties": (18, 19),
+    "repair": (20, 21, 22),
+}
+
 
 def sound(ledger):
     """Whether refusal 3 does not hold."""

@@ -6,7 +6,7 @@ import cases
 import faults
 from base_cases import arbitrary_ledger, byte_changed, fair_offer, follower_of
 from built import offer_in_year, run_in_year, step_case, step_in_year
-from faults import LAST, Fault, Offer, applied, named, not_fresh
+from faults import LAST, OF_RECORD, Fault, Offer, applied, named, not_fresh
 from histories import KINDS_AND_CLIMATES, PLACES, PLAIN, balanced, by_default, damaged, file_of, lived, only
 from histories import plain_year, random_file, random_record, replaced, taken, whole_records
 from reference import BYTES, FRESH, MASS_LIMIT, NONE, RECORDS, Ledger, little, write_record
@@ -117,8 +117,8 @@ def stopped(rng):
         yield run_in_year(ledger, data, 2 * BYTES + rng.randrange(BYTES), (2, 2))
         after = taken(ledger, whole_records(data))
         follower = Offer(after, random_record(rng, after.n, kind, climate))
-        for number in range(5, 10):
-            fault = rng.choice([fault for fault in faults.FAULTS if fault.number == number])
+        for number in dict.fromkeys(fault.number for fault in OF_RECORD):
+            fault = rng.choice([fault for fault in OF_RECORD if fault.number == number])
             last = applied(follower, [fault]).data()
             expect = (3, named(fault)) if named(fault) else (4, 2)
             yield run_in_year(ledger, data + last + follower.data(), 4 * BYTES, expect)

@@ -200,11 +200,11 @@ def corrected(*factors):
 
 
 def first_fault(order, file, room, report_room):
-    """Request g's refusals: of all that hold, the lowest number, or 0."""
+    """Request g's refusals: the first that holds, or 0."""
     records, rest = divmod(len(file), 48)
     misnamed = len(order) != 8 or any(order.count(t) != 1 for t in range(1, 9))
     faults = (20, misnamed), (21, rest > 0), (22, room < len(file)), (22, report_room < records)
-    return min((number for number, holds in faults if holds), default=0)
+    return next((number for number, holds in faults if holds), 0)
 
 
 def repaired(order, file, output, report):

@@ -7,7 +7,7 @@ from typing import NamedTuple
 
 import reference
 from cases import case
-from faults import LAST, Fault, applied, in_offer
+from faults import LAST, Fault, applied, in_offer, named
 from histories import only, replaced
 from reference import MASS_LIMIT, SAMPLE, SAMPLES, WHOLE, little
 
@@ -89,13 +89,13 @@ PAIRS = [pair for pair in combinations(FAULTS, 2) if pair[0].field != pair[1].fi
 
 
 def at_fault(rng):
-    """Each fault alone, and one of each pair of fields, the lower number winning."""
+    """Each fault alone, and one of each pair of fields, the one that is tested first winning."""
     of_fields = {}
     for one, other in PAIRS:
         of_fields.setdefault((one.field, other.field), []).append((one, other))
     for kind in FEWEST:
         for faults in [(fault,) for fault in FAULTS] + [rng.choice(pairs) for pairs in of_fields.values()]:
-            yield masses_case(applied(fair_sorting(rng, kind), faults), faults[0].number)
+            yield masses_case(applied(fair_sorting(rng, kind), faults), named(*faults))
 
 
 def numbers_of_samples(rng):

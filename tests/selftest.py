@@ -1,6 +1,8 @@
 #!/usr/bin/env python3
 """Holds the reference to all that document 01 prints, to the sources' own tables and equations, and to demand 3.
 
+It holds the refusal numbers to those of docs/METHOD.md, README.md and include/landfill.h.
+
 Of document 02 it holds masses from samples, the carbon released so far, months that share the year's factors, the
 correction factor from uncertainties, sludge with a measured dry matter, and the shuffled files put right.
 
@@ -19,12 +21,13 @@ import decay_tables
 import months_checks
 import order_checks
 import reference
+import refusal_checks
 import retold
 import samples_cases
 import sludge_checks
 import uncertainty_checks
 from checks import NO_VALUES, NOTHING, ROOM, check, fields_of, offered, told_again
-from faults import applied
+from faults import applied, named
 from histories import KINDS_AND_CLIMATES, PLAIN, balanced, damaged, file_of, measured, next_measured, next_record, only
 from histories import replaced
 from reference import FRESH, Ledger, Year, decay, deposits, rates, step, write_record
@@ -306,7 +309,7 @@ def samples_at_fault(rng):
     """Each fault alone, and which of two is named."""
     for kind, faults in product((1, 2), [(fault,) for fault in samples_cases.FAULTS] + samples_cases.PAIRS):
         sorting = applied(fair_sorting(rng, kind), faults)
-        check(f"masses of {sorting}", reference.masses(*sorting), (faults[0].number, NOTHING))
+        check(f"masses of {sorting}", reference.masses(*sorting), (named(*faults), NOTHING))
 
 
 def sampled(sorting):
@@ -339,6 +342,8 @@ def cases_page():
 
 def main():
     constants()
+    refusal_checks.in_documents()
+    refusal_checks.in_header()
     worked_figures()
     allowed()
     refused()

@@ -54,8 +54,9 @@ def main():
     with open(os.path.join(ROOT, FILE), encoding="utf-8") as file:
         lines = file.read().split("\n")
     with tempfile.TemporaryDirectory() as copy:
-        for part in ("tests", "tools", "docs"):
+        for part in ("tests", "tools", "docs", "include"):
             shutil.copytree(os.path.join(ROOT, part), os.path.join(copy, part))
+        shutil.copy(os.path.join(ROOT, "README.md"), copy)
         if not passes(copy, lines):
             raise SystemExit("the selftest fails with nothing changed")
         tried = list(slips(lines))

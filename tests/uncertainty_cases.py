@@ -8,7 +8,7 @@ from typing import NamedTuple
 
 import reference
 from cases import case
-from faults import applied, in_offer
+from faults import applied, in_offer, named
 from histories import replaced
 from reference import CODES, MOST, chosen
 
@@ -164,7 +164,7 @@ def at_fault(rng):
     for faults in with_pairs(FAULTS):
         yield factor_case(applied(random_six(rng), faults), (18, 0))
     for faults in with_pairs(FAULTS_BY_CODES):
-        yield codes_case(applied(random_choice(rng), faults), (faults[0].number, 0))
+        yield codes_case(applied(random_choice(rng), faults), (named(*faults), 0))
     for byte in (101, 128, 255):
         yield factor_case((byte,) * 6, (18, 0))
         yield codes_case((byte,) * 6, (18, 0))

@@ -81,7 +81,10 @@ standin() {
 # Proves and builds the library, unless another file or the stand-in is to be linked in its place.
 find_library() {
     case $library in
-    '') rt staticlib abi >&2 || stop "rt staticlib abi has not built the library"; library=target/staticlib/libabi.a ;;
+    '')
+        rt staticlib landfill >&2 || stop "rt staticlib landfill has not built the library"
+        library=target/staticlib/liblandfill.a
+        ;;
     standin) standin; library=$target/standin/libstandin.a ;;
     esac
     [ -f "$library" ] || stop "no library at $library"

@@ -1,6 +1,6 @@
 /* A first program with the library: two years of the site that docs/METHOD.md works by hand, a month that was sorted, a
  * correction factor from uncertainties, sludge whose dry matter was measured, and a shuffled file that is put right.
- * Build it with: gcc -Iinclude tests/c/example.c target/staticlib/libabi.a */
+ * Build it with: gcc -Iinclude tests/c/example.c target/staticlib/liblandfill.a */
 #include "landfill.h"
 
 #include <inttypes.h>

@@ -38,20 +38,12 @@ static void check_codes(void)
     static const int choices[] = {LANDFILL_LOWER, LANDFILL_HIGHER};
     static const int types[] = {LANDFILL_WOOD, LANDFILL_PAPER, LANDFILL_FOOD, LANDFILL_TEXTILES, LANDFILL_GARDEN,
                                 LANDFILL_INERT, LANDFILL_DOMESTIC_SLUDGE, LANDFILL_PAPER_SLUDGE};
-    static const int refusals[] = {LANDFILL_ACCEPTED, LANDFILL_NOT_48_BYTES, LANDFILL_NO_ROOM, LANDFILL_UNSOUND,
-                                   LANDFILL_FULL, LANDFILL_NOT_A_CODE, LANDFILL_OUT_OF_TURN, LANDFILL_OTHER_SERIES,
-                                   LANDFILL_OUT_OF_RANGE, LANDFILL_MASS_TOO_LARGE, LANDFILL_CELL_EMPTY,
-                                   LANDFILL_CELL_NOT_WHOLE, LANDFILL_CELL_OUTSIDE, LANDFILL_POINT_TOO_LARGE,
-                                   LANDFILL_TOTAL_TOO_LARGE, LANDFILL_NOT_THE_SAMPLES, LANDFILL_SAMPLE_NOT_WHOLE,
-                                   LANDFILL_NOT_THE_YEARS, LANDFILL_OVER_100, LANDFILL_NOT_A_CHOICE,
-                                   LANDFILL_NOT_AN_ORDER, LANDFILL_NOT_WHOLE_RECORDS, LANDFILL_NO_ROOM_FOR_REPAIR};
     check_row("a kind", kinds, 2, 1, 1);
     check_row("a climate", climates, 4, 1, 1);
     check_row("a site class", classes, 4, 1, 1);
     check_row("a choice of an uncertainty", choices, 2, 1, 1);
     check_row("a waste type", types, 8, 1, 1);
     check("the number of types", LANDFILL_TYPES == 8);
-    check_row("a refusal", refusals, 23, 0, 1);
 }
 
 static void check_sizes(void)
@@ -344,32 +336,80 @@ static void check_kg(void)
     check("landfill_kg of what is no number", no_number != no_number);
 }
 
-static void check_text(unsigned refusal, const char *text)
+/* Every refusal that there is: its number, its name and its text. The numbers may have gaps. */
+static const struct {
+    unsigned number;
+    int name;
+    const char *text;
+} refusals[] = {
+    {0, LANDFILL_ACCEPTED, "Accepted."},
+    {1, LANDFILL_NOT_48_BYTES, "The record is not 48 bytes long."},
+    {2, LANDFILL_NO_ROOM, "There is too little room for the output."},
+    {3, LANDFILL_UNSOUND, "The ledger is damaged, or is no ledger."},
+    {4, LANDFILL_FULL, "The ledger is full: it has 1200 records."},
+    {5, LANDFILL_NOT_A_CODE, "The kind, the climate or the site class is not a code, or bytes 14 and 15 are not zero."},
+    {6, LANDFILL_OUT_OF_TURN, "The period is not the next in turn."},
+    {7, LANDFILL_OTHER_SERIES, "The kind or the climate is not that of the records before."},
+    {8, LANDFILL_OUT_OF_RANGE,
+     "The correction factor, OX, F, DOCf, GWP, the captured share or the dry matter of sludge is outside its range."},
+    {9, LANDFILL_MASS_TOO_LARGE, "A mass is over 1,000,000,000 kg."},
+    {10, LANDFILL_CELL_EMPTY, "The cell is empty."},
+    {11, LANDFILL_CELL_NOT_WHOLE, "The cell is not a whole number of kilograms."},
+    {12, LANDFILL_CELL_OUTSIDE, "The cell is below 0 or above 1,000,000,000 kg."},
+    {13, LANDFILL_POINT_TOO_LARGE, "Figure and bound are too large to be drawn exactly."},
+    {14, LANDFILL_TOTAL_TOO_LARGE, "The total is over 1,000,000,000 kg."},
+    {15, LANDFILL_NOT_THE_SAMPLES,
+     "The kind is not a code, or the samples are not 12 to 400 whole ones for a year or 3 for a month."},
+    {16, LANDFILL_SAMPLE_NOT_WHOLE, "The fractions of a sample do not add up to 100 percent."},
+    {17, LANDFILL_NOT_THE_YEARS,
+     "The correction factor, the site class or the captured share is not that of the year's first month."},
+    {18, LANDFILL_OVER_100, "An uncertainty is over 100 percent."},
+    {19, LANDFILL_NOT_A_CHOICE, "A choice between the lower and the higher value is not 1 or 2."},
+    {20, LANDFILL_NOT_AN_ORDER, "The order does not name each of the eight types once."},
+    {21, LANDFILL_NOT_WHOLE_RECORDS, "The file is not whole records of 48 bytes."},
+    {22, LANDFILL_NO_ROOM_FOR_REPAIR, "There is too little room for the repaired file or for its report."},
+};
+static const size_t refusal_count = sizeof refusals / sizeof refusals[0];
+
+static int is_refusal(unsigned number)
 {
-    check("landfill_refusal_text", strcmp(landfill_refusal_text(refusal), text) == 0);
+    size_t i;
+    for (i = 0; i < refusal_count; i++)
+        if (refusals[i].number == number) return 1;
+    return 0;
 }
 
-static void check_texts(void)
+static int is_text(unsigned number, const char *text)
 {
-    unsigned refusal;
-    for (refusal = 0; refusal <= 22; refusal++) check("a text", strchr(landfill_refusal_text(refusal), '.') != NULL);
-    check_text(LANDFILL_ACCEPTED, "Accepted.");
-    check_text(LANDFILL_NOT_A_CODE,
-               "The kind, the climate or the site class is not a code, or bytes 14 and 15 are not zero.");
-    check_text(LANDFILL_OUT_OF_TURN, "The period is not the next in turn.");
-    check_text(LANDFILL_OUT_OF_RANGE,
-               "The correction factor, OX, F, DOCf, GWP, the captured share or the dry matter of sludge is outside its range.");
-    check_text(LANDFILL_POINT_TOO_LARGE, "Figure and bound are too large to be drawn exactly.");
-    check_text(LANDFILL_SAMPLE_NOT_WHOLE, "The fractions of a sample do not add up to 100 percent.");
-    check_text(LANDFILL_NOT_THE_YEARS,
-               "The correction factor, the site class or the captured share is not that of the year's first month.");
-    check_text(LANDFILL_OVER_100, "An uncertainty is over 100 percent.");
-    check_text(LANDFILL_NOT_A_CHOICE, "A choice between the lower and the higher value is not 1 or 2.");
-    check_text(LANDFILL_NOT_AN_ORDER, "The order does not name each of the eight types once.");
-    check_text(LANDFILL_NOT_WHOLE_RECORDS, "The file is not whole records of 48 bytes.");
-    check_text(LANDFILL_NO_ROOM_FOR_REPAIR, "There is too little room for the repaired file or for its report.");
-    check_text(23, "No refusal has this number.");
-    check_text((unsigned)-1, "No refusal has this number.");
+    return strcmp(landfill_refusal_text(number), text) == 0;
+}
+
+static void check_number(const char *name, unsigned number, int right)
+{
+    if (right) return;
+    printf("header: %s %u is wrong\n", name, number);
+    wrong = 1;
+}
+
+/* Every refusal has its own number and its own text. Any other byte, and some larger numbers, have the text of no refusal. */
+static void check_refusals(void)
+{
+    static const char none[] = "No refusal has this number.";
+    static const unsigned larger[] = {256, 257, 65535, 65536, 65537, (unsigned)-256, (unsigned)-1};
+    unsigned number;
+    size_t i, j;
+    for (i = 0; i < refusal_count; i++) {
+        number = refusals[i].number;
+        check_number("the name of refusal", number, refusals[i].name == (int)number);
+        check_number("the text of refusal", number, is_text(number, refusals[i].text) && !is_text(number, none));
+        for (j = 0; j < i; j++)
+            check_number("the text, not its own, of refusal", number,
+                         !is_text(number, landfill_refusal_text(refusals[j].number)));
+    }
+    for (number = 0; number <= 255; number++)
+        if (!is_refusal(number)) check_number("the text of the free number", number, is_text(number, none));
+    for (i = 0; i < sizeof larger / sizeof larger[0]; i++)
+        check_number("the text of the free number", larger[i], is_text(larger[i], none));
 }
 
 int main(void)
@@ -389,6 +429,6 @@ int main(void)
     check_invert();
     check_changed();
     check_kg();
-    check_texts();
+    check_refusals();
     return wrong;
 }

@@ -1,7 +1,7 @@
 #!/usr/bin/env bash
 # Builds the C programs for x86-64 and runs them: the example, the library against the reference, the door under all modes.
 # Usage: bash tests/c/run.sh [--library FILE | --standin] [--seed NUMBER]
-#   --library FILE   links this archive in the place of target/staticlib/libabi.a
+#   --library FILE   links this archive in the place of target/staticlib/liblandfill.a
 #   --standin        links the reference in the library's place, to try the test itself
 set -eu
 cd "$(dirname "$0")/../.."

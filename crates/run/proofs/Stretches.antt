@@ -2,7 +2,7 @@
 use mathlib.Core.Path.{_≡_, refl, sym, ap, subst, _∙_}
 use mathlib.Core.Bool.{Bool, true, false, cond, _&&_}
 use mathlib.Core.List.{List, [], _++_, append-nil}
-use Prim.Native.Nat.{ℕ, _-_, _*_, _≤_, _<_}
+use Prim.Native.Nat.{ℕ, _+_, _-_, _*_, _≤_, _<_}
 use native.Mathlib.Decide.{decLe, ℕ-discrete}
 use native.Mathlib.Omega.{arith}
 use borrow.Author.Tests.{eqb-true, ltb-true, ltb-false, eq-eqb, ne-eqb}
@@ -114,24 +114,27 @@ pub whole-starts : (file : List ℕ) → MidWhole file fresh 0 0
 unfolding wholeRun outcomeOf fresh
 whole-starts file =
     let c = run-counts fresh (recordsOf file) (recordBytes * length (recordsOf file)) (omega arith) in
+    let counted : length (wholeRun file .accepted) ≡ wholeRun file .ledger .n = omega (arith, c .n) in
     record {
       few = omega arith;
       in-file = omega arith;
-      so-far = λ i. record { ledger = wholeRun file .ledger; accepted = sym (c .n) i; refusal = wholeRun file .refusal };
+      so-far = λ i. record { ledger = wholeRun file .ledger; accepted = counted i; refusal = wholeRun file .refusal };
     }
 
-pub whole-goes-on : {file : List ℕ} {l : Ledger} {at : ℕ} (h : MidWhole file l at 0) {o : Outcome} → o ≡ outcomeOf (stretchRun l (drop at file))
-    → (at′ : ℕ) → at′ ≤ length file → drop at′ file ≡ drop stretchBytes (drop at file) → MidWhole file (o .ledger) at′ (o .refusal)
-unfolding outcomeOf
-whole-goes-on {file} {l} {at} h e at′ inside same =
-    rw (e, same) (record { few = counts l (drop at file) (h .few) .few; in-file = inside; so-far = h .so-far ∙ by-refusal (ℕ-discrete (ran .refusal) 0) })
-  where
-    abbrev ran : Run
-    ran = stretchRun l (drop at file)
+module _ {file : List ℕ} {l : Ledger} {at : ℕ} (h : MidWhole file l at 0) where
+  next-end : let r = stretchRun l (drop at file) in endOf (restRun l (drop at file)) ≡ restEnd (r .refusal) (r .ledger) (drop stretchBytes (drop at file))
+  next-end =
+      let r = stretchRun l (drop at file) in
+      elim (ℕ-discrete (r .refusal) 0) [
+        | yes z ↦ simp (eq-eqb (r .refusal) 0 z) (ap endOf (goes-on l (drop at file) (h .few) z))
+        | no z ↦ simp (ne-eqb (r .refusal) 0 z) (ap endOf (ends-here l (drop at file) (h .few) z))
+      ]
 
-    by-refusal : Dec (ran .refusal ≡ 0) → endOf (restRun l (drop at file)) ≡ restEnd (ran .refusal) (ran .ledger) (drop stretchBytes (drop at file))
-    by-refusal (yes z) = simp (eq-eqb (ran .refusal) 0 z) (ap endOf (goes-on l (drop at file) (h .few) z))
-    by-refusal (no z) = simp (ne-eqb (ran .refusal) 0 z) (ap endOf (ends-here l (drop at file) (h .few) z))
+  pub whole-goes-on : {o : Outcome} → o ≡ outcomeOf (stretchRun l (drop at file))
+      → (at′ : ℕ) → at′ ≤ length file → drop at′ file ≡ drop stretchBytes (drop at file) → MidWhole file (o .ledger) at′ (o .refusal)
+  unfolding outcomeOf
+  whole-goes-on e at′ inside same =
+      rw e (record { few = counts l (drop at file) (h .few) .few; in-file = inside; so-far = h .so-far ∙ next-end ∙ rw same })
 
 pub whole-ends : {file : List ℕ} {l : Ledger} {at refusal : ℕ} → MidWhole file l at refusal → (refusal ≡ 0 → length file ≤ at)
     → record { ledger = l; accepted = l .n; refusal = refusal } ≡ outcomeOf (wholeRun file)

@@ -12,7 +12,7 @@ use borrow.Author.Tests.{not-true, not-false}
 use lib.ListN.{length, take, drop}
 use Rattle.record.specs.Ranges.{light}
 use Rattle.ledger.specs.Refusal.{refusalOf}
-use Rattle.ledger.specs.Take.{acceptedOf, outputRecord}
+use Rattle.ledger.specs.Take.{acceptedOf, enteredOf, outputRecord}
 use Rattle.ledger.proofs.Accepted.{room-alike}
 use Rattle.run.proofs.MidRun.{MidRun, early, run-starts, lent-length, lent-back, reach-within, next-within, at-last, at-early, at-heavy, no-refusal, turn-on, Ends, may-settle}
 use Rattle.run.proofs.run.Statement.{statement}
@@ -79,11 +79,12 @@ enter-requires c κs =
 
 -- an accepted record, and how the loop goes on
 records-again : tie.Need-records-again Inv-loop μ-loop Inv-records μ-records
+unfolding enteredOf
 records-again c =
-    let h = c .before .before .before .before .before .before .before .before .before .before in
-    let r = ready (c .before .before .before .before .before .before .before .before .before) in
-    let ok = passed (c .before .before .before .before) in
-    let entered = c .before .before .enter in (
+    let h = c .before .before .before .before .before .before .before .before .before .before .before in
+    let r = ready (c .before .before .before .before .before .before .before .before .before .before) in
+    let ok = passed (c .before .before .before .before .before) in
+    let entered = c .before .before .before .enter in (
       rw (rw (add-sub-cancel-left (h .records .at) 48) at (entered .ensures .0), add-sub-cancel-left (h .records .at) 48)
           (turn-on (h .records .inv .0) _ (omega (arith, r .in-file))
           (room-alike (h .records .ledger) (bytesAt h) (length (h .records .out) - h .records .at) 48 (omega (arith, r .in-out)) (omega arith) ∙ ok)
@@ -135,5 +136,5 @@ run-spec =
     (λ c. omega (arith, c .before .before .before .before .before .before .before .before .before .records .inv .0 .grown)) (λ c. search needs)
     (λ c. search needs) (λ c. search needs) loop-again
     (λ c. omega (arith, ready (c .before .before .before .before .before) .in-file, c .before .before .before .before .before .before .before .before .before .before .before .before .before)) (λ c. search needs) (λ c. search needs) (λ c. let b = ready (c .before .before .before .before .before) .in-out in search needs) enter-requires
-    (λ c. omega (arith, ready (c .before .before .before .before .before .before .before .before .before) .in-file, c .before .before .before .before .before .before .before .before .before .before .before .before .before .before .before .before .before)) (λ c. omega (arith, ready (c .before .before .before .before .before .before .before .before .before) .in-file)) records-again
+    (λ c. omega (arith, ready (c .before .before .before .before .before .before .before .before .before .before) .in-file, c .before .before .before .before .before .before .before .before .before .before .before .before .before .before .before .before .before .before)) (λ c. omega (arith, ready (c .before .before .before .before .before .before .before .before .before .before) .in-file)) records-again
     settled-requires (λ c. search needs) returns)

@@ -16,10 +16,10 @@ returns-2 : tie.Need-returns-2
 returns-2 c =
     let s = c .before .before .before .before .before in
     let good = s .pre .1 (c .before .if1 .left) in
-    again (s .args .self) (c .less .ensures ∙ gone-is (s .args .self) (good .0) ∙ sym (good .1))
+    again (s .args .ledger) (c .less .ensures ∙ gone-is (s .args .ledger) (good .0) ∙ sym (good .1))
 
 pub settled-spec : {M : Type 1} → statement M
 settled-spec =
     tie.close
-    (tie.spec (λ c κs t place. let s = c .before .before .before .before in sound-is (s .args .self) (s .pre .1 (c .if1 .left) .0) .at t place .kept)
-    (λ c. let s = c .before .before .before .before in again (s .args .self) (sym (s .pre .0 (c .if1 .taken)))) returns-2)
+    (tie.spec (λ c κs t place. let s = c .before .before .before .before in sound-is (s .args .ledger) (s .pre .1 (c .if1 .left) .0) .at t place .kept)
+    (λ c. let s = c .before .before .before .before in again (s .args .ledger) (sym (s .pre .0 (c .if1 .taken)))) returns-2)

@@ -1,0 +1,46 @@
+-- `MidWhole` holds at the head of the loop; each stretch and the end is a law of it.
+use mathlib.Core.Path.{_≡_, refl, ap, _∙_}
+use mathlib.Core.List.{List}
+use Prim.Native.Nat.{ℕ, _-_, _<_}
+use native.Mathlib.Omega.{arith}
+use borrow.Author.Needs.{needs}
+use lib.ListN.{length, drop}
+use Rattle.run.specs.Stretches.{stretchBytes}
+use Rattle.run.proofs.Stretches.{goes, no-more, MidWhole, whole-starts, whole-goes-on, whole-ends, output-size}
+use Rattle.run.proofs.stretch.whole_run.Statement.{statement}
+use Rattle.run.proofs.stretch.whole_run.Tie as tie
+
+abbrev Inv-loop : tie.InvT-loop
+Inv-loop file out₀ ledger₀ at₀ refusal₀ out ledger at refusal = (MidWhole file ledger at refusal) × (length out ≡ stretchBytes)
+
+abbrev μ-loop : tie.MeasureT-loop
+μ-loop file out₀ ledger₀ at₀ refusal₀ out ledger at refusal = length file - at
+
+abbrev file : tie.In-loop Inv-loop μ-loop → List ℕ
+file c = c .before .before .before .before .args .file .now
+
+-- the loop's test: nothing is refused, and bytes are left
+more : (c : tie.In-loop Inv-loop μ-loop) → let loop = c .before .loop in (loop .refusal ≡ 0) × (loop .at < length (file c))
+more c = let loop = c .before .loop in goes (loop .refusal) (loop .at) (length (file c)) (c .loop-test .taken)
+
+here : (c : tie.In-loop Inv-loop μ-loop) → let loop = c .before .loop in MidWhole (file c) (loop .ledger) (loop .at) 0
+here c = rw (more c .0) at (c .before .loop .inv .0)
+
+loop-again : tie.Need-loop-again Inv-loop μ-loop
+loop-again c =
+    let ran = c .before .before .run-stretch in
+    let in-loop = c .before .before .before .before in
+    let loop = in-loop .before .loop in
+    let end = ran .ensures .1 .1 in (
+      whole-goes-on (here in-loop) (ran .ensures .0) (ran .result .end) (end .in-file) (end .rest),
+      ap length (ran .ensures .1 .0) ∙ output-size (loop .ledger) (drop (loop .at) (file in-loop)) (here in-loop .few) (loop .out) (loop .inv .1),
+    )
+
+pub whole-run-spec : {M : Type 1} → statement M
+whole-run-spec =
+    tie.close
+    (tie.spec Inv-loop μ-loop (λ c κs. tt) (λ c. (rw (c .fresh .ensures) (whole-starts (c .before .before .args .file .now)), refl))
+    (λ c. search needs) (λ c κs. (c .before .before .loop .inv .0 .in-file, c .before .before .loop .inv .1))
+    (λ c. let end = c .before .before .run-stretch .ensures .1 .1 in omega (arith, end .far (more (c .before .before .before .before) .1), end .in-file)) loop-again
+    (λ c. omega (arith, c .before .before .loop .inv .0 .few))
+    (λ c. let loop = c .before .before .loop in whole-ends (loop .inv .0) (no-more (loop .refusal) (loop .at) (length (c .before .before .before .before .before .args .file .now)) (c .before .loop-test .left))))
