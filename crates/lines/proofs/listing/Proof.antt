@@ -6,13 +6,14 @@ use borrow.Author.Needs.{needs}
 use denote.Ref.{now}
 use lib.ListN.{length}
 use Rattle.run.proofs.History.{records-count}
+use Rattle.line.specs.Line.{lineBytes}
 use Rattle.lines.specs.Listing.{roomFor}
 use Rattle.lines.proofs.MidListing.{no-room, whole-text}
 use Rattle.lines.proofs.listing.Statement.{statement}
 use Rattle.lines.proofs.listing.Tie as tie
 
--- the room that is asked for is 90 bytes for every line that there can be
-room-is : (c : tie.After-most-lines) → 90 * c .most-lines .result ≡ roomFor (c .before .before .before .args .file .now)
+-- the room that is asked for is that of every line that there can be
+room-is : (c : tie.After-most-lines) → lineBytes * c .most-lines .result ≡ roomFor (c .before .before .before .args .file .now)
 unfolding roomFor
 room-is c = rw (c .most-lines .ensures .0, records-count (c .before .before .before .args .file .now))
 

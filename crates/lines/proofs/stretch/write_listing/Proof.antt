@@ -5,8 +5,9 @@ use native.Mathlib.Omega.{arith}
 use borrow.Author.Needs.{needs}
 use denote.Ref.{now}
 use lib.ListN.{length}
-use Rattle.run.specs.History.{outcomeOf, outOf}
-use Rattle.lines.proofs.MidListing.{goes, no-more, MidListing, listing-starts, listing-ends, ran, output-stays, lines-fit, stretch-on}
+use Rattle.run.specs.Stretches.{stretchBytes}
+use Rattle.run.proofs.Stretches.{goes, no-more}
+use Rattle.lines.proofs.MidListing.{MidListing, listing-starts, listing-ends, output-stays, lines-fit, stretch-on}
 use Rattle.lines.proofs.stretch.write_listing.Statement.{statement}
 use Rattle.lines.proofs.stretch.write_listing.Tie as tie
 
@@ -25,43 +26,36 @@ here c =
     rw (goes (loop .refusal) (loop .at) (length (s .file .now)) (c .loop-test .taken) .0) at (loop .inv .0)
 
 abbrev Ran : Type 0
-Ran = tie.After-run Inv-loop μ-loop
+Ran = tie.After-run-stretch Inv-loop μ-loop
 
 abbrev start : Ran → tie.In-loop Inv-loop μ-loop
-start c = c .before .before .before .before
-
--- what the run of the stretch answers, and what it leaves in the output
-answered : (c : Ran) → c .run .result ≡ outcomeOf (ran (here (start c)))
-answered c = rw (c .before .before .before .stretch-end .ensures .part, start c .before .loop .inv .1) at (c .run .ensures .0)
-
-put-out : (c : Ran) → c .run .last .1 .1 .0 ≡ outOf (ran (here (start c))) (start c .before .loop .out)
-put-out c = rw (c .before .before .before .stretch-end .ensures .part, start c .before .loop .inv .1) at (c .run .ensures .1)
+start c = c .before .before
 
 put-lines-requires : tie.Need-put-lines-requires Inv-loop μ-loop
 put-lines-requires c κs =
     let r = c .before .before .before in
     let loop = start r .before .loop in
-    lines-fit (here (start r)) (loop .out) (loop .inv .1) (answered r) (put-out r)
+    lines-fit (here (start r)) (loop .out) (loop .inv .1) (r .run-stretch .ensures .0) (r .run-stretch .ensures .1 .0)
 
 loop-again : tie.Need-loop-again Inv-loop μ-loop
 loop-again c =
     let lines = c .before .before .before in
     let r = lines .before .before .before .before in
-    let stretch = r .before .before .before .stretch-end in
+    let ran = r .run-stretch in
+    let end = ran .ensures .1 .1 in
     let h = here (start r) in
     let loop = start r .before .loop in (
-      stretch-on h (loop .out) (loop .inv .1) (answered r) (put-out r) (lines .put-lines .ensures .0) (lines .put-lines .ensures .1) (stretch .result) (stretch .ensures .in-file) (stretch .ensures .rest),
-      output-stays h (loop .out) (loop .inv .1) (answered r) (put-out r),
+      stretch-on h (loop .out) (loop .inv .1) (ran .ensures .0) (ran .ensures .1 .0) (lines .put-lines .ensures .0) (lines .put-lines .ensures .1) (ran .result .end) (end .in-file) (end .rest),
+      output-stays h (loop .out) (loop .inv .1) (ran .ensures .0) (ran .ensures .1 .0),
     )
 
 loop-less : tie.Need-loop-less Inv-loop μ-loop
 loop-less c =
-    let run = c .before .before .before .before .before .before .before in
-    let s = start run in
+    let r = c .before .before .before .before .before .before .before in
+    let s = start r in
     let loop = s .before .loop in
-    let size = length (s .before .before .before .before .before .args .file .now) in
-    let stretch = run .before .before .before .stretch-end .ensures in
-    omega (arith, stretch .far (goes (loop .refusal) (loop .at) size (s .loop-test .taken) .1), stretch .in-file)
+    let end = r .run-stretch .ensures .1 .1 in
+    omega (arith, end .far (goes (loop .refusal) (loop .at) (length (s .before .before .before .before .before .args .file .now)) (s .loop-test .taken) .1), end .in-file)
 
 returns : tie.Need-returns Inv-loop μ-loop
 returns c =
@@ -75,8 +69,7 @@ write-listing-spec =
     tie.close
     (tie.spec Inv-loop μ-loop (λ c κs. tt)
     (λ c. (rw (c .fresh .ensures) (listing-starts (c .before .before .before .args .file .now) (now (c .before .before .before .args .text)) (c .before .before .before .pre)), refl))
-    (λ c κs. c .before .loop .inv .0 .in-file) (λ c. c .stretch-end .ensures .on)
-    (λ c. search needs) (λ c. search needs) (λ c. search needs) (λ c κs. tt) (λ c. search needs)
+    (λ c. search needs) (λ c κs. (c .before .before .loop .inv .0 .in-file, c .before .before .loop .inv .1)) (λ c. search needs)
     put-lines-requires loop-less loop-again
     (λ c. omega (arith, c .before .before .before .loop .inv .0 .few)) (λ c. omega (arith, c .before .before .before .loop .inv .0 .few))
     (λ c κs. c .before .before .before .loop .inv .0 .end-room)
