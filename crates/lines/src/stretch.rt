@@ -19,11 +19,11 @@ pub(crate) fn write_listing(file: &[u8], text: &mut [u8]) -> usize
     let mut refusal: u8 = 0;
     while (refusal == 0) & (at < file.len()) {
         let ran = run::run_stretch(ledger, file, at, &mut out);
-        length = put_lines(text, length, &out, ran.outcome.accepted);
-        let next = ran.outcome.ledger;
+        length = put_lines(text, length, &out, ran.accepted);
+        let next = ran.ledger;
         ledger = next;
-        refusal = ran.outcome.refusal;
-        at = ran.end;
+        refusal = ran.refusal;
+        at = run::stretch_end(file, at);
     }
     put_end(text, length, refusal, ledger.n as u64 + 1)
 }

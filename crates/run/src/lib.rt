@@ -2,8 +2,8 @@
 mod stretch;
 
 pub use stretch::STRETCH;
-pub use stretch::Stretched;
 pub use stretch::run_stretch;
+pub use stretch::stretch_end;
 pub use stretch::whole_run;
 ghost use mathlib.Core.Bool.{true};
 ghost use mathlib.Core.Path.{_≡_};

@@ -11,14 +11,8 @@ use ledger::Ledger;
 // The bytes of a stretch, and of its output records.
 pub const STRETCH: usize = 32 * Ledger::BYTES;
 
-// How the run of a stretch ends, and the place after the stretch.
-pub struct Stretched {
-    pub outcome: Outcome,
-    pub end: usize,
-}
-
 // Answers where the stretch that starts at a place ends.
-fn stretch_end(file: &[u8], at: usize) -> usize
+pub fn stretch_end(file: &[u8], at: usize) -> usize
     requires { ⌜ at ≤ length (now file) ⌝ }
     ensures { λ r. ⌜ Stretch (now (file .entry)) at r ⌝ }
 {
@@ -29,16 +23,14 @@ fn stretch_end(file: &[u8], at: usize) -> usize
 }
 
 // Runs the stretch of a file that starts at a place, and writes its output records at the start of the output.
-pub fn run_stretch(ledger: Ledger, file: &[u8], at: usize, out: &mut [u8]) -> Stretched
+pub fn run_stretch(ledger: Ledger, file: &[u8], at: usize, out: &mut [u8]) -> Outcome
     requires { ⌜ at ≤ length (now file) ⌝ }
     requires { ⌜ length (now out) ≡ stretchBytes ⌝ }
-    ensures { λ r. ⌜ r .outcome ≡ outcomeOf (stretchRun ledger (drop at (now (file .entry)))) ⌝ }
+    ensures { λ r. ⌜ r ≡ outcomeOf (stretchRun ledger (drop at (now (file .entry)))) ⌝ }
     ensures { λ _. ⌜ now (out .exit) ≡ outOf (stretchRun ledger (drop at (now (file .entry)))) (now (out .entry)) ⌝ }
-    ensures { λ r. ⌜ Stretch (now (file .entry)) at (r .end) ⌝ }
 {
     let end = stretch_end(file, at);
-    let outcome = run(ledger, &file[at..end], out);
-    Stretched { outcome, end }
+    run(ledger, &file[at..end], out)
 }
 
 // Answers the ledger, the number of accepted records and the refusal with which a file ends that is run from a fresh ledger with room
@@ -52,10 +44,10 @@ pub fn whole_run(file: &[u8]) -> Outcome
     let mut refusal: u8 = 0;
     while (refusal == 0) & (at < file.len()) {
         let ran = run_stretch(ledger, file, at, &mut out);
-        let next = ran.outcome.ledger;
+        let next = ran.ledger;
         ledger = next;
-        refusal = ran.outcome.refusal;
-        at = ran.end;
+        refusal = ran.refusal;
+        at = stretch_end(file, at);
     }
     Outcome {
         ledger,

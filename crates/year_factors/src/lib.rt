@@ -5,10 +5,10 @@ ghost use Rattle.year_factors.specs.YearFactors.{yearOf, noYear, repeats
 // The months of a year.
 const MONTHS: u16 = 12;
 
-// A year's correction factor in percent, captured share f in hundredths of a percent, and site class; all 0 where none is remembered.
+// A year's captured share f in hundredths of a percent, correction factor in percent, and site class; all 0 where none is remembered.
 pub struct YearFactors {
-    pub factor: u8,
     pub captured: u16,
+    pub factor: u8,
     pub class: u8,
 }
 

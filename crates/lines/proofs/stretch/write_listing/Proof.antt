@@ -35,26 +35,25 @@ put-lines-requires : tie.Need-put-lines-requires Inv-loop μ-loop
 put-lines-requires c κs =
     let r = c .before .before .before in
     let loop = start r .before .loop in
-    lines-fit (here (start r)) (loop .out) (loop .inv .1) (r .run-stretch .ensures .0) (r .run-stretch .ensures .1 .0)
+    lines-fit (here (start r)) (loop .out) (loop .inv .1) (r .run-stretch .ensures .0) (r .run-stretch .ensures .1)
 
 loop-again : tie.Need-loop-again Inv-loop μ-loop
 loop-again c =
-    let lines = c .before .before .before in
+    let lines = c .before .before .before .before in
     let r = lines .before .before .before .before in
     let ran = r .run-stretch in
-    let end = ran .ensures .1 .1 in
+    let end = c .stretch-end .ensures in
     let h = here (start r) in
     let loop = start r .before .loop in (
-      stretch-on h (loop .out) (loop .inv .1) (ran .ensures .0) (ran .ensures .1 .0) (lines .put-lines .ensures .0) (lines .put-lines .ensures .1) (ran .result .end) (end .in-file) (end .rest),
-      output-stays h (loop .out) (loop .inv .1) (ran .ensures .0) (ran .ensures .1 .0),
+      stretch-on h (loop .out) (loop .inv .1) (ran .ensures .0) (ran .ensures .1) (lines .put-lines .ensures .0) (lines .put-lines .ensures .1) (c .stretch-end .result) (end .in-file) (end .rest),
+      output-stays h (loop .out) (loop .inv .1) (ran .ensures .0) (ran .ensures .1),
     )
 
 loop-less : tie.Need-loop-less Inv-loop μ-loop
 loop-less c =
-    let r = c .before .before .before .before .before .before .before in
-    let s = start r in
+    let s = start (c .before .before .before .before .before .before .before .before) in
     let loop = s .before .loop in
-    let end = r .run-stretch .ensures .1 .1 in
+    let end = c .stretch-end .ensures in
     omega (arith, end .far (goes (loop .refusal) (loop .at) (length (s .before .before .before .before .before .args .file .now)) (s .loop-test .taken) .1), end .in-file)
 
 returns : tie.Need-returns Inv-loop μ-loop
@@ -70,7 +69,7 @@ write-listing-spec =
     (tie.spec Inv-loop μ-loop (λ c κs. tt)
     (λ c. (rw (c .fresh .ensures) (listing-starts (c .before .before .before .args .file .now) (now (c .before .before .before .args .text)) (c .before .before .before .pre)), refl))
     (λ c. search needs) (λ c κs. (c .before .before .loop .inv .0 .in-file, c .before .before .loop .inv .1)) (λ c. search needs)
-    put-lines-requires loop-less loop-again
+    put-lines-requires (λ c κs. start (c .before .before .before .before .before .before .before) .before .loop .inv .0 .in-file) loop-less loop-again
     (λ c. omega (arith, c .before .before .before .loop .inv .0 .few)) (λ c. omega (arith, c .before .before .before .loop .inv .0 .few))
     (λ c κs. c .before .before .before .loop .inv .0 .end-room)
     (λ c. c .before .before .put-end .ensures .0 .as-many ∙ c .before .before .before .before .before .before .loop .inv .0 .as-long) returns)

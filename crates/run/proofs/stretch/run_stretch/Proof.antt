@@ -9,7 +9,7 @@ returns c =
     let s = c .before .before .before .before .before .before .before .before in
     let end = c .before .before .before .before .before .stretch-end .ensures in
     let ran = c .before .before .run .ensures in
-    (rw (end .part, s .pre .1) at (ran .0), (rw (end .part, s .pre .1) at (ran .1), end))
+    (rw (end .part, s .pre .1) at (ran .0), rw (end .part, s .pre .1) at (ran .1))
 
 pub run-stretch-spec : {M : Type 1} → statement M
 run-stretch-spec =

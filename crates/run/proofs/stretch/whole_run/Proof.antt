@@ -28,12 +28,12 @@ here c = rw (more c .0) at (c .before .loop .inv .0)
 
 loop-again : tie.Need-loop-again Inv-loop μ-loop
 loop-again c =
-    let ran = c .before .before .run-stretch in
-    let in-loop = c .before .before .before .before in
+    let ran = c .before .before .before .run-stretch in
+    let in-loop = c .before .before .before .before .before in
     let loop = in-loop .before .loop in
-    let end = ran .ensures .1 .1 in (
-      whole-goes-on (here in-loop) (ran .ensures .0) (ran .result .end) (end .in-file) (end .rest),
-      ap length (ran .ensures .1 .0) ∙ output-size (loop .ledger) (drop (loop .at) (file in-loop)) (here in-loop .few) (loop .out) (loop .inv .1),
+    let end = c .stretch-end .ensures in (
+      whole-goes-on (here in-loop) (ran .ensures .0) (c .stretch-end .result) (end .in-file) (end .rest),
+      ap length (ran .ensures .1) ∙ output-size (loop .ledger) (drop (loop .at) (file in-loop)) (here in-loop .few) (loop .out) (loop .inv .1),
     )
 
 pub whole-run-spec : {M : Type 1} → statement M
@@ -41,6 +41,7 @@ whole-run-spec =
     tie.close
     (tie.spec Inv-loop μ-loop (λ c κs. tt) (λ c. (rw (c .fresh .ensures) (whole-starts (c .before .before .args .file .now)), refl))
     (λ c. search needs) (λ c κs. (c .before .before .loop .inv .0 .in-file, c .before .before .loop .inv .1))
-    (λ c. let end = c .before .before .run-stretch .ensures .1 .1 in omega (arith, end .far (more (c .before .before .before .before) .1), end .in-file)) loop-again
+    (λ c κs. c .before .before .before .before .before .loop .inv .0 .in-file)
+    (λ c. let end = c .stretch-end .ensures in omega (arith, end .far (more (c .before .before .before .before .before) .1), end .in-file)) loop-again
     (λ c. omega (arith, c .before .before .loop .inv .0 .few))
     (λ c. let loop = c .before .before .loop in whole-ends (loop .inv .0) (no-more (loop .refusal) (loop .at) (length (c .before .before .before .before .before .args .file .now)) (c .before .loop-test .left))))
