@@ -41,13 +41,13 @@ fn take_one(ledger: Ledger, bytes: &[u8], out: &mut [u8]) -> Answer
     if bytes.len() != Ledger::BYTES {
         return ledger.refused(1);
     }
-    let end = run::run(ledger, bytes, out);
-    if end.refusal != 0 {
-        return ledger.refused(end.refusal);
-    }
-    let after = end.ledger;
-    let released = after.released;
     let before = ledger.released;
+    let end = run::run(ledger, bytes, out);
+    let after = end.ledger;
+    if end.refusal != 0 {
+        return after.refused(end.refusal);
+    }
+    let released = after.released;
     Answer {
         ledger: after,
         refusal: 0,

@@ -107,15 +107,19 @@ pub fn filed(n: u16, bytes: &[u8], x0: u64, brought: [u64; 8], stock: [u64; 8]) 
       brought = sumOf (λ t. getD brought t 0) 8;
     } ⌝ }
 {
+    let left = carbon::total(stock);
     let factors = Factors::of(bytes);
+    let figure = figure(factors, x0);
+    let all = carbon::total(brought);
+    let bound = bound(factors, margins(n, brought));
     Output {
         period: n,
         kind: record::kind(bytes),
         climate: record::climate(bytes),
         x0,
-        figure: figure(factors, x0),
-        bound: bound(factors, margins(n, brought)),
-        stock: carbon::total(stock),
-        brought: carbon::total(brought),
+        figure,
+        bound,
+        stock: left,
+        brought: all,
     }
 }

@@ -45,6 +45,10 @@ module _ (l : Ledger) (bytes out : List ℕ) where
     unfolding outcomeOf
     one-ledger e = ap (λ (r : Run). r .ledger) (one-taken e)
 
+    pub one-ledger-stays : (refusalOf l bytes room ≡ 0 → ⊥) → outcomeOf oneRun .ledger ≡ l
+    unfolding outcomeOf
+    one-ledger-stays e = ap (λ (r : Run). r .ledger) (one-refused e)
+
     pub one-written : outOf oneRun out ≡ writtenOf l bytes out
     unfolding outOf outputs writtenOf
     one-written =

@@ -9,18 +9,15 @@ use Rattle.figure.proofs.filed.Tie as tie
 returns : tie.Need-returns
 returns c =
     let s = c .before .before .before .before .before .before .before .before .before in
-    let of = c .before .before .before .before .before .before .before .of .ensures in
-    let R = c .before .total .ensures in
-    let T = c .total2 .ensures in
     simp (
-      c .before .before .before .before .before .before .kind .ensures,
-      c .before .before .before .before .before .climate .ensures,
-      c .before .before .before .before .figure .ensures,
+      c .climate .ensures,
+      c .before .kind .ensures,
       c .before .before .bound .ensures,
       c .before .before .before .margins .ensures,
-      of,
-      R,
-      T,
+      c .before .before .before .before .total2 .ensures,
+      c .before .before .before .before .before .figure .ensures,
+      c .before .before .before .before .before .before .of .ensures,
+      c .before .before .before .before .before .before .before .total .ensures,
       sum-fits (λ t. getD (s .args .stock) t 0) (λ t h. s .pre .1 t h .1),
       sum-fits (λ t. getD (s .args .brought) t 0) (λ t h. s .pre .1 t h .0),
     )
@@ -28,6 +25,5 @@ returns c =
 pub filed-spec : {M : Type 1} → statement M
 filed-spec =
     tie.close
-    (tie.spec (λ c κs. search needs) (λ c κs. search needs) (λ c κs. search needs)
-    (λ c κs. rw (c .before .before .of .ensures) (c .before .before .before .before .pre .0))
-    (λ c κs. search needs) (λ c κs. search needs) (λ c κs. search needs) (λ c κs. search needs) returns)
+    (tie.spec (λ c κs. tt) (λ c κs. tt) (λ c κs. rw (c .of .ensures) (c .before .before .before .pre .0))
+    (λ c κs. tt) (λ c κs. tt) (λ c κs. tt) (λ c κs. tt) (λ c κs. tt) returns)
