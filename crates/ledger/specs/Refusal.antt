@@ -1,10 +1,11 @@
 -- Document 01, refusal 3, with what requests b, c and f of document 02 add: when a ledger is sound; and the refusal of a record.
+use mathlib.Core.Path.{_≡_}
 use mathlib.Core.Bool.{Bool, cond, _&&_}
 use mathlib.Core.List.{List}
 use Prim.Native.Nat.{ℕ}
 use lib.Dec.{eqb, leb}
 use Rattle.numbers.specs.Eight.{everyOf}
-use Rattle.numbers.specs.Fault.{firstOf}
+use Rattle.numbers.specs.Fault.{firstOf, ahead}
 use Rattle.waste.specs.Kind.{isKind}
 use Rattle.waste.specs.Waste.{isClimate}
 use Rattle.carbon.specs.Carbon.{mostRecords, withinOf}
@@ -40,3 +41,7 @@ sound l = leb (l .n) mostRecords && cond (eqb (l .n) 0) (allZero l) (inOrder l) 
 -- What refuses a record, with room for so many bytes of output: the first fault.
 unfoldable pub refusalOf : Ledger → List ℕ → (room : ℕ) → ℕ
 refusalOf l bytes room = firstOf (faultsOf (sound l) (l .n) (l .kind) (l .climate) (l .year) bytes room)
+
+-- Nothing that is tested ahead of a number refuses a record: ahead of 17, none of 1 to 8 is there.
+abbrev pub NoneAhead : (number : ℕ) → Ledger → List ℕ → (room : ℕ) → Type 0
+NoneAhead number l bytes room = firstOf (ahead number (faultsOf (sound l) (l .n) (l .kind) (l .climate) (l .year) bytes room)) ≡ 0

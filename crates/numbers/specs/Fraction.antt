@@ -69,3 +69,8 @@ power a (suc n) = power a n ⊗ a
 unfoldable pub total : (ℕ → Fraction) → ℕ → Fraction
 total f zero = whole 0
 total f (suc n) = total f n ⊕ f n
+
+-- The two differ by less than the bound, both ways.
+pub record WithinBound (exact : Fraction) (figure bound : ℕ) : Type 0 where
+  pub exact-below : exact ≺ whole figure ⊕ whole bound
+  pub figure-below : whole figure ≺ exact ⊕ whole bound

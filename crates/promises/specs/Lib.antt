@@ -1,10 +1,1 @@
-pub mod Offering
-pub mod Exact
-pub mod WholeRun
-pub mod Site
-pub mod Worked
-pub mod Sorting
-pub mod Uncertainties
-pub mod Sludge
-pub mod Shuffled
 pub mod Promises

@@ -9,8 +9,8 @@ use borrow.Author.Tests.{leb-true}
 use lib.Dec.{eqb, leb}
 use Rattle.numbers.proofs.Eight.{both-true, all-true, cond-most}
 use Rattle.numbers.proofs.Fault.{between-high}
-use Rattle.waste.specs.Waste.{massLimit, carbonOf, mostDry, mostCarbonOf}
-use Rattle.waste.proofs.Laws.{carbon-most, highest-most}
+use Rattle.waste.specs.Waste.{massLimit, carbonOf, mostDry, mostCarbonOf, inert}
+use Rattle.waste.proofs.Laws.{carbon-most, highest-most, inert-no-carbon}
 use Rattle.record.specs.Fields.{dryOf, massOf, depositOf, mostDeposit}
 use Rattle.record.specs.Ranges.{ranges, inRange, dryInRange, light}
 use Rattle.record.specs.declared.factors.Factors.{Factors}
@@ -56,3 +56,8 @@ deposit-within bytes t e f =
 
 pub deposit-most : (bytes : List ℕ) (t : ℕ) → light bytes t ≡ true → dryInRange bytes ≡ true → depositOf bytes t ≤ mostDeposit
 deposit-most bytes t e f = omega (arith, deposit-within bytes t e f, highest-most (t + 1))
+
+-- Inert waste brings no carbon, and so has none to release or to keep.
+pub inert-brings-none : (bytes : List ℕ) (t : ℕ) → inert t ≡ true → depositOf bytes t ≡ 0
+unfolding depositOf
+inert-brings-none bytes t e = rw (inert-no-carbon t (dryOf bytes (t + 1)) e) (omega arith)

@@ -1,13 +1,15 @@
 -- Laws of the constants: what stands past the lists, what has no group, and how large a constant can be.
 use mathlib.Core.Path.{_≡_, refl, sym}
+use mathlib.Core.Bool.{true}
 use mathlib.Core.List.{List, [], _∷_}
-use Prim.Native.Nat.{ℕ, zero, suc, _≤_, _<_, zero-le}
+use Prim.Native.Nat.{ℕ, zero, suc, _+_, _≤_, _<_, zero-le}
 use native.Mathlib.Nat.{le-refl}
 use native.Mathlib.Omega.{arith}
+use borrow.Author.Tests.{eqb-true}
 use lib.Dec.{T, eqb, leb, leb→le}
 use lib.ListN.{length, getD, List·getD-eq-default}
 use Rattle.numbers.proofs.Eight.{cond-most}
-use Rattle.waste.specs.Waste.{numbered, domesticOf, industrialOf, carbons, carbonOf, mostDry, mostCarbonOf, mostCarbon, corrections, correctionOf}
+use Rattle.waste.specs.Waste.{numbered, domesticOf, industrialOf, carbons, carbonOf, mostDry, mostCarbonOf, mostCarbon, inert, corrections, correctionOf}
 
 pub past-list : (xs : List ℕ) (k : ℕ) → length xs < k → 0 ≡ numbered xs k
 past-list xs k h = sym (List·getD-eq-default (0 ∷ xs) 0 h)
@@ -63,3 +65,10 @@ highest-most waste = entry-most mostCarbon (0 ∷ carbons mostDry) (search tt) w
 pub correction-most : (class : ℕ) → correctionOf class ≤ 100
 unfolding correctionOf
 correction-most class = entry-most 100 (0 ∷ corrections) (search tt) class
+
+-- Inert waste has no carbon, whatever m is.
+pub inert-no-carbon : (t m : ℕ) → inert t ≡ true → carbonOf (t + 1) m ≡ 0
+unfolding carbonOf
+inert-no-carbon t m e =
+    let p : t ≡ 5 = omega (arith, eqb-true) in
+    rw p refl

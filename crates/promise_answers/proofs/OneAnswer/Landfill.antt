@@ -1,0 +1,51 @@
+-- The entries that C calls.
+use denote.Ref.{now}
+use Rattle.landfill.proofs.landfill_entry.Reads as entry
+use Rattle.landfill.proofs.landfill_fresh.Reads as fresh
+use Rattle.landfill.proofs.landfill_take.Reads as take
+use Rattle.landfill.proofs.landfill_run.Reads as run
+use Rattle.landfill.proofs.landfill_totals.Reads as totals
+use Rattle.landfill.proofs.landfill_cell.Reads as cell
+use Rattle.landfill.proofs.landfill_masses.Reads as masses
+use Rattle.landfill.proofs.landfill_factor.Reads as factor
+use Rattle.landfill.proofs.landfill_factor_by_codes.Reads as factor-by-codes
+use Rattle.landfill.proofs.landfill_repair.Reads as repair
+use Rattle.landfill.proofs.landfill_point.Reads as point
+use Rattle.landfill.proofs.landfill_listing.Reads as listing
+use Rattle.promise_answers.proofs.OneAnswer.{OneAnswer, Settled, by-equation, _&_, both}
+
+pub landfill-entry-one : OneAnswer entry.Learnt
+landfill-entry-one = by-equation (λ κs a r s p. p)
+
+pub landfill-fresh-one : Settled fresh.Learnt (λ κs r s. r & now (s .0))
+landfill-fresh-one = by-equation (λ κs a r s p. both (p .0) (p .1))
+
+pub landfill-take-one : Settled take.Learnt (λ κs r s. r & now (s .0) & now (s .1 .1 .0) & now (s .1 .1 .1 .0))
+landfill-take-one = by-equation (λ κs a r s p. both (p .0) (both (p .1 .0) (both (p .1 .1 .0) (p .1 .1 .1))))
+
+pub landfill-run-one : Settled run.Learnt (λ κs r s. r & now (s .0) & now (s .1 .1 .0) & now (s .1 .1 .1 .0))
+landfill-run-one = by-equation (λ κs a r s p. both (p .0) (both (p .1 .0) (both (p .1 .1 .0) (p .1 .1 .1))))
+
+pub landfill-totals-one : Settled totals.Learnt (λ κs r s. r & now (s .1 .0) & now (s .1 .1 .0) & now (s .1 .1 .1 .0))
+landfill-totals-one = by-equation (λ κs a r s p. both (p .0) (both (p .1 .0) (both (p .1 .1 .0) (p .1 .1 .1))))
+
+pub landfill-cell-one : Settled cell.Learnt (λ κs r s. r & now (s .1 .1 .0))
+landfill-cell-one = by-equation (λ κs a r s p. both (p .0) (p .1))
+
+pub landfill-masses-one : Settled masses.Learnt (λ κs r s. r & now (s .1 .1 .1 .0))
+landfill-masses-one = by-equation (λ κs a r s p. both (p .0) (p .1))
+
+pub landfill-factor-one : Settled factor.Learnt (λ κs r s. r & now (s .1 .1 .1 .1 .1 .1 .0))
+landfill-factor-one = by-equation (λ κs a r s p. both (p .0) (p .1))
+
+pub landfill-factor-by-codes-one : Settled factor-by-codes.Learnt (λ κs r s. r & now (s .1 .1 .1 .1 .1 .1 .0))
+landfill-factor-by-codes-one = by-equation (λ κs a r s p. both (p .0) (p .1))
+
+pub landfill-repair-one : Settled repair.Learnt (λ κs r s. r & now (s .1 .1 .0) & now (s .1 .1 .1 .0) & now (s .1 .1 .1 .1 .0))
+landfill-repair-one = by-equation (λ κs a r s p. both (p .0) (both (p .1 .0) (both (p .1 .1 .0) (p .1 .1 .1))))
+
+pub landfill-point-one : Settled point.Learnt (λ κs r s. r & now (s .1 .1 .0) & now (s .1 .1 .1 .0) & now (s .1 .1 .1 .1 .0))
+landfill-point-one = by-equation (λ κs a r s p. both (p .0) (both (p .1 .0) (both (p .1 .1 .0) (p .1 .1 .1))))
+
+pub landfill-listing-one : Settled listing.Learnt (λ κs r s. r & now (s .1 .0) & now (s .1 .1 .0))
+landfill-listing-one = by-equation (λ κs a r s p. both (p .0) (both (p .1 .0) (p .1 .1)))

@@ -1,0 +1,2 @@
+pub mod SaysOwn
+pub mod Promise

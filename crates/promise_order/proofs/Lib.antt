@@ -1,0 +1,3 @@
+pub mod Shuffled
+pub mod Righted
+pub mod Proved

@@ -1,0 +1,2 @@
+pub mod Shuffled
+pub mod Promise

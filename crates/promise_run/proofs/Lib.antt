@@ -1,0 +1,3 @@
+pub mod WholeRun
+pub mod OneRun
+pub mod Proved

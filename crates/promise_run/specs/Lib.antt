@@ -1,0 +1,2 @@
+pub mod WholeRun
+pub mod Promise

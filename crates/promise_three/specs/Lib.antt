@@ -1,0 +1,4 @@
+pub mod Offering
+pub mod Exact
+pub mod DemandThree
+pub mod Promise

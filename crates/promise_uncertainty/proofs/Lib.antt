@@ -1,0 +1,3 @@
+pub mod Equation
+pub mod Uncertainties
+pub mod Proved

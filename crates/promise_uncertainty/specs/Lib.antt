@@ -1,0 +1,2 @@
+pub mod Uncertainties
+pub mod Promise
