@@ -83,8 +83,14 @@ fn is_within(n: u64, brought: u64, left: u64, released: u64, t: usize) -> bool
 }
 
 // Tells whether there are no more records than a ledger takes, and every T is within what they can bring, and made up so.
-pub fn are_within(n: u16, brought: [u64; 8], left: [u64; 8], released: [u64; 8]) -> bool
-    ensures { λ r. ⌜ r ≡ (leb n mostRecords && everyOf (λ t. withinOf n (getD brought t 0) (getD left t 0) (getD released t 0) t) 8) ⌝ }
+pub fn are_within<'a>(
+    n: u16,
+    brought: &'a [u64; 8],
+    left: &'a [u64; 8],
+    released: &'a [u64; 8],
+) -> bool
+    ensures { λ r. ⌜ r ≡ (leb n mostRecords
+        && everyOf (λ t. withinOf n (getD (now (brought .entry)) t 0) (getD (now (left .entry)) t 0) (getD (now (released .entry)) t 0) t) 8) ⌝ }
 {
     if n > RECORDS {
         return false;

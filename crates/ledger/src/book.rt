@@ -1,15 +1,17 @@
 // The ledger, from value to value.
-ghost use mathlib.Core.Bool.{cond};
+ghost use mathlib.Core.Bool.{cond, _&&_};
 ghost use mathlib.Core.List.{_++_};
 ghost use mathlib.Core.Path.{_≡_};
 ghost use Prim.Native.Nat.{_<_};
 ghost use lib.Dec.{eqb};
 ghost use lib.ListN.{length, drop};
 ghost use Rattle.numbers.specs.Eight.{eight};
+ghost use Rattle.waste.specs.Kind.{isKind};
+ghost use Rattle.waste.specs.Waste.{isClimate};
 ghost use Rattle.record.specs.Fields.{recordBytes, kindOf, climateOf};
 ghost use Rattle.carbon.specs.Carbon.{entryAt};
 ghost use Rattle.ledger.specs.Step.{fresh, decayedAt, periodOfAll};
-ghost use Rattle.ledger.specs.Refusal.{blank, inCode, sound, refusalOf};
+ghost use Rattle.ledger.specs.Refusal.{sound, refusalOf};
 ghost use Rattle.ledger.specs.Take.{acceptedOf, refusedOf, enteredOf, outputRecord, takeOf, writtenOf, totalsOf};
 use crate::answer::Answer;
 use crate::answer::Entered;
@@ -28,6 +30,40 @@ pub struct Ledger {
     pub brought: [u64; 8],
     pub stock: [u64; 8],
     pub released: [u64; 8],
+}
+
+// Tells whether kind and climate are zero with no records, and codes with some.
+fn is_coded(n: u16, kind: u8, climate: u8) -> bool
+    ensures { λ r. ⌜ r ≡ cond (eqb n 0) (eqb kind 0 && eqb climate 0) (isKind kind && isClimate climate) ⌝ }
+{
+    if n == 0 {
+        return (kind == 0) & (climate == 0);
+    }
+    waste::is_kind(kind) & waste::is_climate(climate)
+}
+
+// Tells whether a ledger is sound, from its fields; the lists are lent, so that a run copies no ledger for the question.
+pub fn are_sound<'a>(
+    n: u16,
+    kind: u8,
+    climate: u8,
+    year: YearFactors,
+    brought: &'a [u64; 8],
+    left: &'a [u64; 8],
+    released: &'a [u64; 8],
+) -> bool
+    ensures { λ r. ⌜ r ≡ sound (record {
+      n = n;
+      kind = kind;
+      climate = climate;
+      year = year;
+      brought = now (brought .entry);
+      stock = now (left .entry);
+      released = now (released .entry);
+    }) ⌝ }
+{
+    let remembers = year.is_sound(n, kind);
+    is_coded(n, kind, climate) & carbon::are_within(n, brought, left, released) & remembers
 }
 
 impl Ledger {
@@ -53,25 +89,20 @@ impl Ledger {
         }
     }
 
-    // Tells whether kind and climate are zero with no records, and codes with some.
-    fn is_coded(self) -> bool
-        ensures { λ r. ⌜ r ≡ cond (eqb (self .n) 0) (blank self) (inCode self) ⌝ }
-    {
-        if self.n == 0 {
-            return (self.kind == 0) & (self.climate == 0);
-        }
-        waste::is_kind(self.kind) & waste::is_climate(self.climate)
-    }
-
     // Tells whether the ledger is sound.
     pub fn is_sound(self) -> bool
         ensures { λ r. ⌜ r ≡ sound self ⌝ }
     {
-        let brought = self.brought;
-        let left = self.stock;
-        let released = self.released;
-        let year = self.year.is_sound(self.n, self.kind);
-        self.is_coded() & carbon::are_within(self.n, brought, left, released) & year
+        let year = self.year;
+        are_sound(
+            self.n,
+            self.kind,
+            self.climate,
+            year,
+            &self.brought,
+            &self.stock,
+            &self.released,
+        )
     }
 
     // Decays one type: answers what place t has after an accepted record, given the table entries of its kind and climate.

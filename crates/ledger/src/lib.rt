@@ -8,3 +8,4 @@ pub use answer::Answer;
 pub use answer::Entered;
 pub use answer::Totals;
 pub use book::Ledger;
+pub use book::are_sound;

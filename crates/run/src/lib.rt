@@ -15,6 +15,7 @@ ghost use Rattle.ledger.specs.Step.{releasedAt};
 ghost use Rattle.ledger.specs.Refusal.{sound, refusalOf};
 ghost use Rattle.run.specs.History.{recordsOf, runOf, outcomeOf, outOf};
 use ledger::Ledger;
+use ledger::are_sound;
 
 // The ledger after the last accepted record, how many records were accepted, and the refusal of the next one, 0 if none.
 pub struct Outcome {
@@ -69,7 +70,16 @@ pub fn run(ledger: Ledger, records: &[u8], out: &mut [u8]) -> Outcome
     ensures { λ r. ⌜ r ≡ outcomeOf (runOf ledger (recordsOf (now (records .entry))) (length (now (out .entry)))) ⌝ }
     ensures { λ _. ⌜ now (out .exit) ≡ outOf (runOf ledger (recordsOf (now (records .entry))) (length (now (out .entry)))) (now (out .entry)) ⌝ }
 {
-    let good = ledger.is_sound();
+    let year = ledger.year;
+    let good = are_sound(
+        ledger.n,
+        ledger.kind,
+        ledger.climate,
+        year,
+        &ledger.brought,
+        &ledger.stock,
+        &ledger.released,
+    );
     let entries = run_entries(ledger, records);
     let reach = refusal::reach(records.len(), out.len());
     let first = ledger.n;

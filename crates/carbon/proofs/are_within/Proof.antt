@@ -22,17 +22,17 @@ abbrev μ-loop : tie.MeasureT-loop
 -- a type that is not within its ceiling
 returns-2 : tie.Need-returns-2 Inv-loop μ-loop
 returns-2 c =
-    let here = c .before .before in
+    let here = c .before .before .before .before .before in
     let a = here .before .before .before .args in
     rw (
-      every-not (λ u. withinOf (a .n) (getD (a .t2) u 0) (getD (a .t3) u 0) (getD (a .t4) u 0) u) 8 (here .before .loop .t) (here .loop-test .taken)
+      every-not (λ u. withinOf (a .n) (getD (a .brought .now) u 0) (getD (a .left .now) u 0) (getD (a .released .now) u 0) u) 8 (here .before .loop .t) (here .loop-test .taken)
           (sym (c .before .is-within .ensures) ∙ not-true _ (c .if2 .taken)),
       and-false _,
     )
 
 loop-again : tie.Need-loop-again Inv-loop μ-loop
 loop-again c =
-    let at = c .before .before .before .loop in
+    let at = c .before .before .before .before .before .before .loop in
     (omega arith, rw (add-one (at .t)) (simp (at .inv .1, sym (c .before .is-within .ensures) ∙ not-false _ (c .if2 .left))))
 
 returns-3 : tie.Need-returns-3 Inv-loop μ-loop
@@ -44,5 +44,6 @@ pub are-within-spec : {M : Type 1} → statement M
 are-within-spec =
     tie.close
     (tie.spec Inv-loop μ-loop (λ c. rw (lt-leb _ _ (c .if1 .taken))) (λ c. (zero-le, refl)) (λ c. search needs) (λ c. c .loop-test .taken)
-    (λ c. search needs) (λ c. c .loop-test .taken) (λ c. search needs) (λ c. c .loop-test .taken) (λ c κs. (c .before .before .if1 .left, c .loop-test .taken))
+    (λ c. search needs) (λ c. c .before .loop-test .taken) (λ c. search needs) (λ c. c .before .before .loop-test .taken)
+    (λ c κs. (c .before .before .before .before .before .if1 .left, c .before .before .before .loop-test .taken))
     returns-2 (λ c. search needs) (λ c. omega arith) loop-again returns-3)

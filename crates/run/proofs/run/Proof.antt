@@ -34,7 +34,7 @@ abbrev Head : Type 0
 Head = tie.At-records Inv-loop μ-loop Inv-records μ-records
 
 abbrev fileOf : Head → List ℕ
-fileOf h = h .before .before .before .before .before .before .before .args .records .now
+fileOf h = h .before .before .before .before .before .before .before .before .before .before .before .before .args .records .now
 
 -- the record at the head of the loop, which is whole and has room
 abbrev bytesAt : Head → List ℕ
@@ -49,7 +49,7 @@ ready : (c : tie.Else1 Inv-loop μ-loop Inv-records μ-records) → Ready (c .be
 ready c =
     let h = c .before in
     let end = h .before .before .reach .ensures in
-    let out₀ = h .before .before .before .before .before .before .before .args .out .now in
+    let out₀ = h .before .before .before .before .before .before .before .before .before .before .before .before .args .out .now in
     let w = reach-within (length (fileOf h)) (length out₀) in
     let next =
     next-within (length (fileOf h)) (length out₀) (h .records .at) (length (h .records .inv .0 .done)) (h .records .inv .0 .counted)
@@ -58,7 +58,7 @@ ready c =
 
 -- past both checks the record is accepted
 none-early : (c : tie.After-early Inv-loop μ-loop Inv-records μ-records) → c .early .result ≡ 0
-    → let h = c .before .before .before in early (h .records .ledger) (bytesAt h) 48 (h .before .before .before .before .is-sound .result) ≡ 0
+    → let h = c .before .before .before in early (h .records .ledger) (bytesAt h) 48 (h .before .before .before .before .are-sound .result) ≡ 0
 none-early c z = sym (rw (add-sub-cancel-left (c .before .before .before .records .at) 48) at (c .early .ensures)) ∙ z
 
 passed : (c : tie.After-loop Inv-loop μ-loop Inv-records μ-records) → let h = c .before .before .before .before .before .before in refusalOf (h .records .ledger) (bytesAt h) 48 ≡ 0
@@ -95,7 +95,7 @@ records-again c =
 
 -- each way out of the loop yields how many records were accepted, and ends as the run does
 left-with : (c : tie.Joined1 Inv-loop μ-loop Inv-records μ-records) → let h = c .before in
-    (c .if1 .end .0 ≡ h .records .ledger .n - h .before .before .before .before .before .before .before .args .ledger .n) × Ends (h .records .inv .0) (c .if1 .end .1)
+    (c .if1 .end .0 ≡ h .records .ledger .n - h .before .before .before .before .before .before .before .before .before .before .before .before .args .t1 .n) × Ends (h .records .inv .0) (c .if1 .end .1)
 left-with c =
     let h = c .before in
     let mid = h .records .inv .0 in
@@ -128,13 +128,13 @@ pub run-spec : {M : Type 1} → statement M
 run-spec =
     tie.close
     (tie.spec Inv-loop μ-loop Inv-records μ-records (λ c κs. search needs) (λ c κs. search needs) (λ c κs. search needs)
-    (λ c. (run-starts _ _ _ _ _ (c .before .before .before .is-sound .ensures) (c .before .before .run-entries .ensures), omega arith))
+    (λ c. (run-starts _ _ _ _ _ (c .before .before .before .are-sound .ensures) (c .before .before .run-entries .ensures), omega arith))
     (λ c. c .before .records .inv .0 .in-file) (λ c κs. search needs) (λ c. omega (arith, c .before .before .before .records .inv .0 .grown)) (λ c. search needs)
-    (λ c. omega (arith, ready c .in-file, c .before .before .before .before .before .before .before .before)) (λ c. search needs) (λ c. search needs) (λ c. let b = ready c .in-file in search needs) (λ c κs. search needs)
+    (λ c. omega (arith, ready c .in-file, c .before .before .before .before .before .before .before .before .before .before .before .before .before)) (λ c. search needs) (λ c. search needs) (λ c. let b = ready c .in-file in search needs) (λ c κs. search needs)
     (λ c. omega (arith, c .before .before .before .before .before .records .inv .0 .grown)) (λ c. search needs)
     (λ c. (search needs, λ k l. absurd (omega arith))) (λ c κs. search needs)
     (λ c. omega (arith, c .before .before .before .before .before .before .before .before .before .records .inv .0 .grown)) (λ c. search needs)
     (λ c. search needs) (λ c. search needs) loop-again
-    (λ c. omega (arith, ready (c .before .before .before .before .before) .in-file, c .before .before .before .before .before .before .before .before .before .before .before .before .before)) (λ c. search needs) (λ c. search needs) (λ c. let b = ready (c .before .before .before .before .before) .in-out in search needs) enter-requires
-    (λ c. omega (arith, ready (c .before .before .before .before .before .before .before .before .before .before) .in-file, c .before .before .before .before .before .before .before .before .before .before .before .before .before .before .before .before .before .before)) (λ c. omega (arith, ready (c .before .before .before .before .before .before .before .before .before .before) .in-file)) records-again
+    (λ c. omega (arith, ready (c .before .before .before .before .before) .in-file, c .before .before .before .before .before .before .before .before .before .before .before .before .before .before .before .before .before .before)) (λ c. search needs) (λ c. search needs) (λ c. let b = ready (c .before .before .before .before .before) .in-out in search needs) enter-requires
+    (λ c. omega (arith, ready (c .before .before .before .before .before .before .before .before .before .before) .in-file, c .before .before .before .before .before .before .before .before .before .before .before .before .before .before .before .before .before .before .before .before .before .before .before)) (λ c. omega (arith, ready (c .before .before .before .before .before .before .before .before .before .before) .in-file)) records-again
     settled-requires (λ c. search needs) returns)
