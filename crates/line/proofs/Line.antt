@@ -6,12 +6,12 @@ use native.Mathlib.Omega.{arith}
 use lib.ListN.{length, take, length-append, length-replicate}
 use lib.Seq.{take-append-seam}
 use Rattle.line.specs.declared.form.Line.{Line}
-use Rattle.line.specs.Line.{lineText, acceptedText, refusedText, padded, Lendable}
+use Rattle.line.specs.Line.{lineText, acceptedText, refusedText, lineBytes, padded, Lendable}
 use Rattle.line.proofs.Decimal.{few}
 
 -- 5 digits, 4 times 20, and a byte after each number.
 module _ {period x0 figure bound R : ℕ} (p : period < 2 ^ 16) (x : x0 < 2 ^ 64) (f : figure < 2 ^ 64) (b : bound < 2 ^ 64) (r : R < 2 ^ 64) where
-  pub accepted-length : let n = length (acceptedText period x0 figure bound R) in (1 ≤ n) × (n ≤ 90)
+  pub accepted-length : let n = length (acceptedText period x0 figure bound R) in (1 ≤ n) × (n ≤ lineBytes)
   unfolding acceptedText lineText
   accepted-length =
       simp length-append (
@@ -20,7 +20,7 @@ module _ {period x0 figure bound R : ℕ} (p : period < 2 ^ 16) (x : x0 < 2 ^ 64
       )
 
 -- 18 bytes of words and spaces, 3 digits and 20, and a byte after each number.
-pub refused-length : {refusal place : ℕ} → refusal < 2 ^ 8 → place < 2 ^ 64 → let n = length (refusedText refusal place) in (1 ≤ n) × (n ≤ 90)
+pub refused-length : {refusal place : ℕ} → refusal < 2 ^ 8 → place < 2 ^ 64 → let n = length (refusedText refusal place) in (1 ≤ n) × (n ≤ lineBytes)
 unfolding refusedText lineText
 refused-length {refusal} {place} h k =
     simp length-append (omega arith, omega (arith, few refusal 2 (omega arith), few place 19 (omega arith)))
@@ -30,7 +30,7 @@ module _ (text : List ℕ) where
   unfolding padded
   line-text = take-append-seam text _
 
-  pub line-lendable : length text ≤ 90 → Lendable (padded text)
+  pub line-lendable : length text ≤ lineBytes → Lendable (padded text)
   unfolding padded
   line-lendable fits =
       record {

@@ -8,7 +8,7 @@ use lib.ListN.{length, drop, set, replicate, length-set, length-append, length-r
 use lib.Seq.{sets, set-comm, length-sets, sets-eq, drop-at}
 use Rattle.numbers.proofs.Bytes.{sets-join}
 use Rattle.line.specs.declared.form.Line.{Line}
-use Rattle.line.specs.Line.{decimalOf, padded, Lendable}
+use Rattle.line.specs.Line.{decimalOf, lineBytes, padded, Lendable}
 use Rattle.line.specs.Writing.{Writes}
 use Rattle.line.proofs.Decimal.{lastDigits, all-digits}
 use Rattle.line.proofs.Line.{line-lendable}
@@ -83,13 +83,13 @@ in-zeros text k =
     let rest : drop (0 + n) zeros ≡ replicate k 0 = rw zero-add (drop-at (replicate n 0) (replicate k 0) n (length-replicate n 0)) in
     rw (← replicate-append-replicate {A = ℕ} n k 0, sets-eq text zeros 0 room, rest)
 
-pub written-line : {bytes text : List ℕ} {len : ℕ} → Writes (replicate 90 0) 0 text bytes len → len ≤ 90
+pub written-line : {bytes text : List ℕ} {len : ℕ} → Writes (replicate lineBytes 0) 0 text bytes len → len ≤ lineBytes
     → let line : Line = record { bytes = bytes; len = len } in (line ≡ padded text) × Lendable line
 unfolding padded
 written-line {bytes} {text} {len} w fits =
     let size : len ≡ length text = omega arith in
-    let k = 90 - length text in
-    let ninety : length text + k ≡ 90 = omega arith in
+    let k = lineBytes - length text in
+    let ninety : length text + k ≡ lineBytes = omega arith in
     let all : bytes ≡ text ++ replicate k 0 = w .stands ∙ ap (λ (n : ℕ). sets (replicate n 0) 0 text) (sym ninety) ∙ in-zeros text k in
     let same : _≡_ {A = Line} (record { bytes = bytes; len = len }) (padded text) = λ i. record { bytes = all i; len = size i } in
     (same, rw same (line-lendable text (omega arith)))

@@ -44,12 +44,16 @@ unfoldable pub refusedText : ℕ → ℕ → List ℕ
 refusedText refusal place =
     lineText (letters "refused" ∷ decimalOf refusal ∷ letters "at" ∷ letters "record" ∷ decimalOf place ∷ [])
 
+-- 90 bytes hold the longest line.
+abbrev pub lineBytes : ℕ
+lineBytes = 90
+
 -- An array of 90 bytes and a length by value, unused bytes 0.
 unfoldable pub padded : List ℕ → Line
-padded text = record { bytes = text ++ replicate (90 - length text) 0; len = length text }
+padded text = record { bytes = text ++ replicate (lineBytes - length text) 0; len = length text }
 
 -- What a caller needs to lend the text, `&bytes[..len]`; it follows from `padded`.
 pub record Lendable (line : Line) : Type 0 where
-  pub ninety : length (line .bytes) ≡ 90
-  pub within : line .len ≤ 90
+  pub ninety : length (line .bytes) ≡ lineBytes
+  pub within : line .len ≤ lineBytes
   pub whole : line .len ≡ length (take (line .len) (line .bytes))

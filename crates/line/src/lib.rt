@@ -3,6 +3,7 @@
 mod form;
 mod text;
 
+pub use form::BYTES;
 pub use form::Line;
 use text::number;
 ghost use mathlib.Core.Path.{_≡_};
@@ -13,7 +14,7 @@ pub fn accepted(period: u16, x0: u64, figure: u64, bound: u64, stock: u64) -> Li
     ensures { λ r. ⌜ r ≡ padded (acceptedText period x0 figure bound stock) ⌝ }
     ensures { λ r. ⌜ Lendable r ⌝ }
 {
-    let mut bytes = [0u8; 90];
+    let mut bytes = [0u8; BYTES];
     let x0_at = number(&mut bytes, 0, period as u64, b' ');
     let figure_at = number(&mut bytes, x0_at, x0, b' ');
     let bound_at = number(&mut bytes, figure_at, figure, b' ');
@@ -27,7 +28,7 @@ pub fn refused(refusal: u8, place: u64) -> Line
     ensures { λ r. ⌜ r ≡ padded (refusedText refusal place) ⌝ }
     ensures { λ r. ⌜ Lendable r ⌝ }
 {
-    let mut bytes = [0u8; 90];
+    let mut bytes = [0u8; BYTES];
     numbers::write_bytes(&mut bytes, 0, b"refused ");
     let words_at = number(&mut bytes, 8, refusal as u64, b' ');
     numbers::write_bytes(&mut bytes, words_at, b"at record ");

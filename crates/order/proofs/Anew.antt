@@ -2,7 +2,7 @@
 use mathlib.Core.Path.{_≡_, sym, ap, _∙_}
 use mathlib.Core.Bool.{Bool, not}
 use mathlib.Core.List.{List, _++_}
-use Prim.Native.Nat.{ℕ, _+_, _*_, _%_, _^_, _≤_, _<_}
+use Prim.Native.Nat.{ℕ, _+_, _-_, _*_, _%_, _^_, _≤_, _<_}
 use native.Mathlib.Nat.{mul-le-mul, le-of-lt}
 use native.Mathlib.Omega.{arith}
 use borrow.Author.Tests.{eq-eqb, ne-eqb}
@@ -70,3 +70,38 @@ head-written file out at long small p q wrote wrote-on =
     (ap (bytesOf 8) q ∙ bytes-at 8 (at + 8) file (omega arith) small ∙ ap (take 8) (sym (drop-drop 8 at file)))
     wrote wrote-on
     ∙ ap (sets out at) (sym (take-add 8 8 bytes) ∙ sym (take-take 16 48 bytes (omega arith)))
+
+-- A record's room is enough for its parts.
+module _ (at : ℕ) {long : ℕ} (room : at + 48 ≤ long) where
+  pub part-room : (n : ℕ) → n ≤ 48 → at + n ≤ long
+  part-room n h = omega arith
+
+  pub part-fits : (n : ℕ) → n ≤ 48 → long < 2 ^ 64 → at + n < 2 ^ 64
+  part-fits n h few = omega arith
+
+  pub second-room : {now : ℕ} → now ≡ long → at + 8 + 8 ≤ now
+  second-room e = omega arith
+
+  module _ (t : ℕ) (l : t < 8) where
+    pub mass-room : {now : ℕ} → now ≡ long → at + 16 + 4 * t + 4 ≤ now
+    mass-room e = omega arith
+
+    pub mass-fits : long < 2 ^ 64 → at + 16 + 4 * t < 2 ^ 64
+    mass-fits few = omega arith
+
+-- The place of a type, and the next.
+module _ (t : ℕ) (l : t < 8) where
+  pub eight-times : t * 8 < 2 ^ 64
+  eight-times = omega arith
+
+  pub four-times : 4 * t < 2 ^ 64
+  four-times = omega arith
+
+  pub as-byte : t < 2 ^ 8
+  as-byte = omega arith
+
+  pub next-fits : t + 1 < 2 ^ 64
+  next-fits = omega arith
+
+  pub fewer-left : 8 - (t + 1) < 8 - t
+  fewer-left = omega arith

@@ -5,7 +5,7 @@ use native.Mathlib.Omega.{arith}
 use borrow.Author.Needs.{needs}
 use lib.ListN.{length}
 use Rattle.line.specs.Line.{decimalOf}
-use Rattle.line.proofs.Decimal.{one-digit, one-more, few, first-digit}
+use Rattle.line.proofs.Decimal.{one-digit, one-more, two-more, few, first-digit}
 use Rattle.line.proofs.text.digits.Statement.{statement}
 use Rattle.line.proofs.text.digits.Tie as tie
 

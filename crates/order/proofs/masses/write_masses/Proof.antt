@@ -1,12 +1,13 @@
 -- Before place t the first t masses are written, and their bits are set where they are others (Anew.antt).
-use mathlib.Core.Path.{_≡_}
+use mathlib.Core.Path.{_≡_, refl}
 use mathlib.Core.Logic.{⊎-elim}
-use Prim.Native.Nat.{ℕ, _-_, _<_}
+use Prim.Native.Nat.{ℕ, _-_, _<_, zero-le}
+use native.Mathlib.Nat.{le-antisymm}
 use native.Mathlib.Omega.{arith}
-use borrow.Author.Needs.{needs}
+use lib.Dec.{lit≤}
 use lib.ListN.{getD}
 use Rattle.order.specs.Order.{eightBits}
-use Rattle.order.proofs.Anew.{Done, other-done, same-done}
+use Rattle.order.proofs.Anew.{Done, other-done, same-done, part-fits, mass-room, mass-fits, eight-times, four-times, as-byte, next-fits, fewer-left}
 use Rattle.order.proofs.masses.write_masses.Statement.{statement}
 use Rattle.order.proofs.masses.write_masses.Tie as tie
 
@@ -44,10 +45,26 @@ loop-again c =
 
 returns : tie.Need-returns Inv-loop μ-loop
 unfolding eightBits
-returns c = let all : c .before .loop .t ≡ 8 = omega arith in (rw all at (c .before .loop .inv .2), rw all at (c .before .loop .inv .1))
+returns c =
+    let all : c .before .loop .t ≡ 8 = le-antisymm (c .before .loop .inv .0) (c .loop-test .left) in
+    (rw all at (c .before .loop .inv .2), rw all at (c .before .loop .inv .1))
 
 pub write-masses-spec : {M : Type 1} → statement M
 write-masses-spec =
     tie.close
-    (tie.spec Inv-loop μ-loop (λ c. search needs) (λ c. search needs) (λ c. search needs) (λ c κs. (start c .pre .0, near c)) (λ c. search needs) (λ c. search needs) (λ c. search needs)
-    (λ c κs. search needs) (λ c κs. search needs) (λ c. search needs) (λ c. search needs) (λ c. search needs) (λ c. search needs) loop-again (λ c. search needs) returns)
+    (tie.spec Inv-loop μ-loop (λ c. (zero-le, refl, refl, refl))
+    (λ c. record { fits = eight-times (c .before .loop .t) (c .loop-test .taken) })
+    (λ c. c .loop-test .taken)
+    (λ c κs. (start c .pre .0, near c))
+    (λ c. let s = start (c .before .before) in record { fits = part-fits (s .args .at) (s .pre .0) 16 (lit≤ tt) (s .good .0 .0) })
+    (λ c. let d = c .before .before in record { fits = four-times (d .before .loop .t) (d .loop-test .taken) })
+    (λ c. let d = c .before .before in let s = start d in record { fits = mass-fits (s .args .at) (s .pre .0) (d .before .loop .t) (d .loop-test .taken) (s .good .0 .0) })
+    (λ c κs. let d = c .before .before in let s = start d in mass-room (s .args .at) (s .pre .1) (d .before .loop .t) (d .loop-test .taken) (d .before .loop .inv .3))
+    (λ c κs. let d = c .before .before .before .before .before in (start d .pre .0, d .loop-test .taken))
+    (λ c. let d = c .before .before .before .before .before .before .before in record { fits = as-byte (d .before .loop .t) (d .loop-test .taken) })
+    (λ c. let d = c .before .before .before .before .before .before .before in d .loop-test .taken)
+    (λ c. let d = begun c in record { fits = next-fits (d .before .loop .t) (d .loop-test .taken) })
+    (λ c. let d = begun c in fewer-left (d .before .loop .t) (d .loop-test .taken))
+    loop-again
+    (λ c. c .before .loop .inv .3)
+    returns)

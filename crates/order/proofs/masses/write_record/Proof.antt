@@ -1,12 +1,12 @@
 -- The first 16 bytes are written as two numbers, then the masses: together they are the record rewritten.
-use mathlib.Core.Path.{_≡_, refl}
+use mathlib.Core.Path.{_≡_, refl, _∙_}
 use Prim.Native.Nat.{ℕ, _≤_}
 use native.Mathlib.Omega.{arith}
-use borrow.Author.Needs.{needs}
+use lib.Dec.{lit≤}
 use lib.Seq.{length-take-le}
 use Rattle.numbers.specs.Lists.{joined}
 use Rattle.order.specs.Repair.{headOf, recordAt, rewritten}
-use Rattle.order.proofs.Anew.{moved, two-written, head-written}
+use Rattle.order.proofs.Anew.{moved, two-written, head-written, part-room, part-fits, second-room}
 use Rattle.order.proofs.Records.{whole-at}
 use Rattle.order.proofs.masses.write_record.Statement.{statement}
 use Rattle.order.proofs.masses.write_record.Tie as tie
@@ -44,8 +44,20 @@ returns c =
       (length-take-le 16 (recordAt file at) (omega (arith, whole-at file at (s .pre .0)))) refl refl head (masses .write-masses .ensures .1),
     )
 
+-- before the second eight bytes
+abbrev start : tie.After-write-u64-arg2 → tie.Start
+start c = c .before .before .before .before .before .before .before .before
+
 pub write-record-spec : {M : Type 1} → statement M
 write-record-spec =
     tie.close
-    (tie.spec (λ c κs. search needs) (λ c κs. search needs) (λ c. search needs) (λ c. search needs) (λ c κs. search needs) (λ c κs. search needs)
-    write-masses-requires (λ c. search needs) returns)
+    (tie.spec
+    (λ c κs. let s = c .before .before .before in part-room (s .args .at) (s .pre .0) 8 (lit≤ tt))
+    (λ c κs. let s = c .before .before .before .before in part-room (s .args .at) (s .pre .1) 8 (lit≤ tt))
+    (λ c. let s = start c in record { fits = part-fits (s .args .at) (s .pre .0) 8 (lit≤ tt) (s .good .0 .0) })
+    (λ c. let s = start c in record { fits = part-fits (s .args .at) (s .pre .0) 8 (lit≤ tt) (s .good .0 .0) })
+    (λ c κs. let s = start c in second-room (s .args .at) (s .pre .0) refl)
+    (λ c κs. let s = start (c .before) in second-room (s .args .at) (s .pre .1) (c .before .before .before .before .write-u64 .kept .0))
+    write-masses-requires
+    (λ c. let second = c .before .before .before .before .before .before in c .before .before .write-masses .kept .1 .1 .1 .0 ∙ second .write-u642 .kept .0 ∙ first second .write-u64 .kept .0)
+    returns)
