@@ -41,7 +41,7 @@ returns c =
     in (
       masses .write-masses .ensures .0,
       two-written (headOf (recordAt file at)) (joined (moved file at (s .args .places)) 8) (s .args .out .now) at 16
-      (length-take-le 16 (recordAt file at) (omega (arith, whole-at file at (s .pre .0)))) refl refl head (masses .write-masses .ensures .1),
+          (length-take-le 16 (recordAt file at) (omega (arith, whole-at file at (s .pre .0)))) refl refl head (masses .write-masses .ensures .1),
     )
 
 -- before the second eight bytes
