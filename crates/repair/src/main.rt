@@ -38,12 +38,17 @@ fn input_room() -> [u8; FILE_BYTES + 1]
     [0u8; FILE_BYTES + 1]
 }
 
-// Writes the file, or the lines of its report, to standard output, and tells whether that went well.
+// Writes the file, or the lines of its report, to standard output, and tells whether that went well; a failure is told on standard error.
 fn write_out(reports: bool, file: &[u8], report: &[u8]) -> bool {
-    if reports {
-        return changes::print_report(report);
+    let written = if reports {
+        changes::print_report(report)
+    } else {
+        io::write_all(STDOUT_FILENO, file)
+    };
+    if !written {
+        os::fail(b"repair: standard output");
     }
-    io::write_all(STDOUT_FILENO, file)
+    written
 }
 
 // Puts a file right, and tells how that went; nothing is written of a refused one.
@@ -57,7 +62,6 @@ fn put_right(reports: bool, types: &[u8], file: &[u8])
     let records = bytes / record::BYTES;
     if repaired.refusal == 0 {
         if !write_out(reports, &out[..bytes], &report[..records]) {
-            os::fail(b"repair: standard output");
             return;
         }
     }

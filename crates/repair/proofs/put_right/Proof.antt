@@ -1,5 +1,5 @@
 -- A file of at most 12,000 records fits its buffers, whose lengths a repair keeps.
-use mathlib.Core.Path.{_≡_, refl, sym}
+use mathlib.Core.Path.{_≡_, sym}
 use Prim.Native.Nat.{ℕ, _/_, _≤_}
 use native.Mathlib.Omega.{arith}
 use lib.ListN.{length}
@@ -34,4 +34,4 @@ put-right-spec =
     (λ c. sym (length-take-le _ _ (file-fits (c .before .before .before .before .before))))
     (λ c. report-fits (c .before .before .before .before .before))
     (λ c. sym (length-take-le _ _ (report-fits (c .before .before .before .before .before .before))))
-    (λ c κs. tt) (λ c. refl) (λ c κs. tt) (λ c. tt) (λ c κs. tt) (λ c. tt))
+    (λ c κs. tt) (λ c. tt) (λ c κs. tt) (λ c. tt))
