@@ -44,6 +44,11 @@ more-digits n h = simp (le-ltb n 10 h) (rw (same n (suc (n / 10)) (n / 10) (omeg
 pub one-more : (n : ℕ) → 10 ≤ n → length (decimalOf n) ≡ length (decimalOf (n / 10)) + 1
 one-more n h = ap length (more-digits n h) ∙ length-append (decimalOf (n / 10)) ((48 + n % 10) ∷ [])
 
+pub two-more : (n : ℕ) → 100 ≤ n → length (decimalOf n) ≡ length (decimalOf (n / 100)) + 2
+two-more n h =
+    let same : n / 10 / 10 ≡ n / 100 = omega arith in
+    omega (arith, one-more n (omega arith), one-more (n / 10) (omega arith), ap (λ (m : ℕ). length (decimalOf m)) same)
+
 -- A number below 10 ^ (k + 1) has at most k + 1 digits.
 abbrev Few : ℕ → Type 0
 Few n = (k : ℕ) → n < 10 ^ suc k → length (decimalOf n) ≤ suc k

@@ -6,7 +6,7 @@ use native.Mathlib.Nat.{zero-add, add-zero, suc-add, pow-zero, pow-suc}
 use native.Mathlib.Numerals.{add-one}
 use native.Mathlib.Omega.{arith}
 use lib.ListN.{length, take, drop, getD, set, length-set}
-use lib.Seq.{sets, sets-eq, getD-set-same, getD-set-other, getD-take, getD-drop}
+use lib.Seq.{sets, sets-eq, getD-set-same, getD-set-other, getD-take, getD-drop, drop-cons}
 use Rattle.numbers.specs.Bytes.{numberAt, bytesOf}
 
 pub number-join : (j k : ℕ) (s : List ℕ) (at : ℕ) → numberAt (j + k) s at ≡ numberAt j s at + 256 ^ j * numberAt k s (at + j)
@@ -94,13 +94,12 @@ number-own k at bytes =
     number-same k bytes (take k (drop at bytes)) at 0
     (λ i l. let same : 0 + i ≡ i = zero-add i in rw same (sym (getD-take k (drop at bytes) i 0 l ∙ getD-drop at bytes i 0)))
 
--- Bytes are again those of the number that they make.
-pub bytes-again : (k : ℕ) (bytes : List ℕ) → length bytes ≡ k → ((i : ℕ) → getD bytes i 0 < 256) → bytesOf k (numberAt k bytes 0) ≡ bytes
-bytes-again zero [] size small = refl
-bytes-again zero (b ∷ rest) size small = absurd (omega arith)
-bytes-again (suc k) [] size small = absurd (omega arith)
-bytes-again (suc k) (b ∷ rest) size small =
-    let number : numberAt (suc k) (b ∷ rest) 0 ≡ b + 256 * numberAt k rest 0 = ap (λ (n : ℕ). b + 256 * n) (number-behind k b rest 0) in
-    let low : (b + 256 * numberAt k rest 0) % 256 ≡ b = omega (arith, small 0) in
-    let high : (b + 256 * numberAt k rest 0) / 256 ≡ numberAt k rest 0 = omega (arith, small 0) in
-    rw (number, low, high, bytes-again k rest (omega arith) (λ i. small (suc i)))
+-- The bytes of a number that is read are those that it is read from.
+pub bytes-at : (k at : ℕ) (bytes : List ℕ) → at + k ≤ length bytes → ((i : ℕ) → getD bytes i 0 < 256)
+    → bytesOf k (numberAt k bytes at) ≡ take k (drop at bytes)
+bytes-at zero at bytes room small = refl
+bytes-at (suc k) at bytes room small =
+    let rest = numberAt k bytes (at + 1) in
+    let low : (getD bytes at 0 + 256 * rest) % 256 ≡ getD bytes at 0 = omega (arith, small at) in
+    let high : (getD bytes at 0 + 256 * rest) / 256 ≡ rest = omega (arith, small at) in
+    rw (low, high, drop-cons bytes at 0 (omega arith), ← add-one at) (ap (λ (bs : List ℕ). getD bytes at 0 ∷ bs) (bytes-at k (at + 1) bytes (omega arith) small))

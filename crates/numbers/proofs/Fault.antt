@@ -1,12 +1,13 @@
--- Laws of faults: where the refusal is 0, the fault with any number is not there; a fault is named by its number, not by its place.
-use mathlib.Core.Path.{_≡_, refl}
+-- Laws of faults: where the refusal is 0, the fault with any number is not there; a fault is named by its number, not by its place,
+-- also where one is inserted.
+use mathlib.Core.Path.{_≡_, refl, sym, _∙_}
 use mathlib.Core.Bool.{Bool, true, false, cond, _&&_, _||_, and-false}
 use mathlib.Core.List.{List, [], _∷_}
 use Prim.Native.Nat.{ℕ, zero, suc, _≤_}
 use native.Mathlib.Omega.{arith}
 use borrow.Author.Tests.{leb-true, eq-eqb}
-use lib.Dec.{eqb, leb}
-use Rattle.numbers.specs.Fault.{Fault, _when_, between, firstOf, ahead}
+use lib.Dec.{eqb, leb, eqb·suc-zero}
+use Rattle.numbers.specs.Fault.{Fault, _when_, between, firstOf, ahead, inserted}
 use Rattle.numbers.proofs.Eight.{both-true}
 
 module _ (low x high : ℕ) (e : between low x high ≡ true) where
@@ -69,3 +70,56 @@ module _ (k : ℕ) where
       by-test true bad on = (λ h. absurd (h refl), λ h. refl)
       by-test false true on = (λ h. refl, λ h. absurd (omega arith))
       by-test false false on = on
+
+-- A fault that is inserted before another: the refusal is that of the faults before it where there is one, else its own number where
+-- it is there, else that of the faults after it.
+abbrev firstWith : (number : ℕ) (bad : Bool) (early late : ℕ) → ℕ
+firstWith number bad early late = cond (eqb early 0) (cond bad number late) early
+
+pub inserted-first : (k number : ℕ) (bad : Bool) (faults : List Fault) → numbered faults ≡ true
+    → firstOf (inserted k (number when bad) faults) ≡ firstWith number bad (firstOf (ahead k faults)) (firstOf (onward k faults))
+inserted-first k number bad [] n = refl
+inserted-first k number bad ((zero, other) ∷ rest) n = cc
+inserted-first k number bad ((suc m, other) ∷ rest) n = by-test (eqb (suc m) k) other (inserted-first k number bad rest n)
+  where
+    by-test : (here other : Bool)
+        → firstOf (inserted k (number when bad) rest) ≡ firstWith number bad (firstOf (ahead k rest)) (firstOf (onward k rest))
+        → firstOf (cond here (number when bad ∷ suc m when other ∷ rest) (suc m when other ∷ inserted k (number when bad) rest))
+        ≡ firstWith number bad (firstOf (cond here [] (suc m when other ∷ ahead k rest))) (firstOf (cond here (suc m when other ∷ rest) (onward k rest)))
+    by-test true other on = refl
+    by-test false true on = rw (eqb·suc-zero m)
+    by-test false false on = on
+
+-- One that is not there changes no refusal.
+pub inserted-absent : (k number : ℕ) (bad : Bool) (faults : List Fault) → bad ≡ false → firstOf (inserted k (number when bad) faults) ≡ firstOf faults
+inserted-absent k number bad [] e = rw e
+inserted-absent k number bad ((m, other) ∷ rest) e = by-test (eqb m k) (inserted-absent k number bad rest e)
+  where
+    by-test : (here : Bool) → firstOf (inserted k (number when bad) rest) ≡ firstOf rest
+        → firstOf (cond here (number when bad ∷ m when other ∷ rest) (m when other ∷ inserted k (number when bad) rest)) ≡ cond other m (firstOf rest)
+    by-test true on = rw e
+    by-test false on = rw on
+
+-- Where none is found, none is found without it, and it is not there.
+pub inserted-clear : (k number : ℕ) (bad : Bool) (faults : List Fault) → numbered (number when bad ∷ faults) ≡ true
+    → firstOf (inserted k (number when bad) faults) ≡ 0 → (firstOf faults ≡ 0) × (bad ≡ false)
+inserted-clear k zero bad faults n e = (cc, cc)
+inserted-clear k (suc number) false faults n e = (sym (inserted-absent k (suc number) false faults refl) ∙ e, refl)
+inserted-clear k (suc number) true faults n e = absurd (some (firstOf (ahead k faults)) (sym (inserted-first k (suc number) true faults n) ∙ e))
+  where
+    some : (early : ℕ) → firstWith (suc number) true early (firstOf (onward k faults)) ≡ 0 → ⊥
+    some zero z = omega arith
+    some (suc m) z = let own : suc m ≡ 0 = rw (eqb·suc-zero m) at z in omega arith
+
+-- With it, still none has the number 0.
+pub inserted-numbered : (k number : ℕ) (bad : Bool) (faults : List Fault) → numbered (number when bad ∷ faults) ≡ true
+    → numbered (inserted k (number when bad) faults) ≡ true
+inserted-numbered k zero bad faults n = cc
+inserted-numbered k (suc number) bad [] n = refl
+inserted-numbered k (suc number) bad ((zero, other) ∷ rest) n = cc
+inserted-numbered k (suc number) bad ((suc m, other) ∷ rest) n = by-test (eqb (suc m) k) (inserted-numbered k (suc number) bad rest n)
+  where
+    by-test : (here : Bool) → numbered (inserted k (suc number when bad) rest) ≡ true
+        → numbered (cond here (suc number when bad ∷ suc m when other ∷ rest) (suc m when other ∷ inserted k (suc number when bad) rest)) ≡ true
+    by-test true on = n
+    by-test false on = on

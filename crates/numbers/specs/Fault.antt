@@ -25,3 +25,8 @@ firstOf ((number, bad) ∷ rest) = cond bad number (firstOf rest)
 abbrev pub ahead : ℕ → List Fault → List Fault
 ahead k [] = []
 ahead k ((number, bad) ∷ rest) = cond (eqb number k) [] (number when bad ∷ ahead k rest)
+
+-- The faults with one more, put in before the one with a number; where none has that number, it comes last.
+abbrev pub inserted : ℕ → Fault → List Fault → List Fault
+inserted k fault [] = fault ∷ []
+inserted k fault ((number, bad) ∷ rest) = cond (eqb number k) (fault ∷ number when bad ∷ rest) (number when bad ∷ inserted k fault rest)

@@ -3,7 +3,8 @@ ghost use mathlib.Core.Path.{_≡_};
 ghost use Prim.Native.Nat.{_+_, _≤_};
 ghost use lib.ListN.{length, take, drop};
 ghost use lib.Seq.{sets};
-use crate::le::write_u8;
+use crate::le::read_u32;
+use crate::le::write_u32;
 
 // Writes bytes from a place on.
 pub fn write_bytes(out: &mut [u8], at: usize, bytes: &[u8])
@@ -17,17 +18,10 @@ pub fn write_bytes(out: &mut [u8], at: usize, bytes: &[u8])
     }
 }
 
-// Copies four bytes. All are read ahead of the first that is written: the compiler then makes one load and one store of them.
+// Copies four bytes. They are read as one number before any is written: the compiler then makes one load and one store of them.
 pub fn copy_four(out: &mut [u8], at: usize, bytes: &[u8], from: usize)
     requires { ⌜ (at + 4 ≤ length (now out)) × (from + 4 ≤ length (now bytes)) ⌝ }
     ensures { λ _. ⌜ now (out .exit) ≡ sets (now (out .entry)) at (take 4 (drop from (now (bytes .entry)))) ⌝ }
 {
-    let first = bytes[from];
-    let second = bytes[from + 1];
-    let third = bytes[from + 2];
-    let fourth = bytes[from + 3];
-    write_u8(out, at, first);
-    write_u8(out, at + 1, second);
-    write_u8(out, at + 2, third);
-    write_u8(out, at + 3, fourth);
+    write_u32(out, at, read_u32(bytes, from));
 }

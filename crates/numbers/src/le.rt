@@ -5,18 +5,12 @@ ghost use lib.ListN.{length, set};
 ghost use lib.Seq.{sets};
 ghost use Rattle.numbers.specs.Bytes.{numberAt, bytesOf};
 
-fn wide(byte: u8) -> u64
-    ensures { λ r. ⌜ (r ≡ byte) × (r < 256) ⌝ }
-{
-    byte as u64
-}
-
 // Answers the number of 2 bytes at a place.
 pub fn read_u16(bytes: &[u8], at: usize) -> u64
     requires { ⌜ at + 2 ≤ length (now bytes) ⌝ }
     ensures { λ r. ⌜ (r ≡ numberAt 2 (now (bytes .entry)) at) × (r < 2 ^ 16) ⌝ }
 {
-    wide(bytes[at]) + 256 * wide(bytes[at + 1])
+    bytes[at] as u64 + 256 * bytes[at + 1] as u64
 }
 
 // Answers the number of 4 bytes at a place.

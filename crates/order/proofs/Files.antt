@@ -11,7 +11,6 @@ use lib.Seq.{take-all, take-length, drop-drop, getD-take, getD-drop}
 use Rattle.numbers.specs.Bytes.{numberAt, bytesOf}
 use Rattle.numbers.specs.Eight.{one, sumOf}
 use Rattle.numbers.specs.Lists.{joined}
-use Rattle.numbers.proofs.Bytes.{bytes-again}
 use Rattle.numbers.proofs.Eight.{sum-each, sum-none}
 use Rattle.numbers.proofs.Joined.{joined-same, joined-part, joined-parts}
 use Rattle.record.specs.Fields.{massOf}
@@ -19,7 +18,7 @@ use Rattle.order.specs.Order.{eightBits, isOrder}
 use Rattle.order.specs.Repair.{headOf, massBytes, rewritten, isOther, recordIn, numberOfRecords, stoodAt, newFile, reportOf, bitsSet}
 use Rattle.order.proofs.Bits.{no-bits-set}
 use Rattle.order.proofs.Named.{place-lt, type-at, place-back}
-use Rattle.order.proofs.Records.{mass-own, mass-length, rewritten-length, head-kept, mass-moved, whole-record}
+use Rattle.order.proofs.Records.{bytes-in, mass-own, bytes-of-mass, rewritten-length, head-kept, mass-moved, whole-record}
 
 -- A record is its head and its eight masses.
 pub record-again : (bytes : List ℕ) → length bytes ≡ 48 → headOf bytes ++ joined (massBytes bytes) 8 ≡ bytes
@@ -135,24 +134,11 @@ module _ (order file : List ℕ) (ok : isOrder order ≡ true) where
           by true e z = eqb-true _ _ e
           by false e z = absurd (omega arith)
 
-      small : (q place : ℕ) (i : ℕ) → getD (massBytes (recordIn file q) place) i 0 < 256
-      small q place i =
-          part 4 (drop (16 + 4 * place) (recordIn file q))
-          (λ j. rw (getD-drop (16 + 4 * place) (recordIn file q) j 0) (part 48 (drop (48 * q) file) (λ k. rw (getD-drop (48 * q) file k 0) (bytes (48 * q + k))) (16 + 4 * place + j))) i
-        where
-          part : (n : ℕ) (xs : List ℕ) → ((j : ℕ) → getD xs j 0 < 256) → (i : ℕ) → getD (take n xs) i 0 < 256
-          part zero xs h i = omega arith
-          part (suc n) [] h i = omega arith
-          part (suc n) (x ∷ xs) h zero = h 0
-          part (suc n) (x ∷ xs) h (suc i) = part n xs (λ j. h (suc j)) i
-
       -- a mass of as many kilograms has the same bytes
       same-bytes : (q : ℕ) → q < numberOfRecords file → (t : ℕ) → t < 8 → massBytes (recordIn file q) (stoodAt order t) ≡ massBytes (recordIn file q) t
       same-bytes q l t m =
           let record48 = whole-record file q l in
-          let number : (place : ℕ) → place < 8 → bytesOf 4 (massOf (recordIn file q) place) ≡ massBytes (recordIn file q) place =
-          λ place k. ap (bytesOf 4) (mass-own (recordIn file q) place) ∙ bytes-again 4 (massBytes (recordIn file q) place) (mass-length (recordIn file q) record48 place k) (small q place)
-          in
+          let number = bytes-of-mass (recordIn file q) record48 (bytes-in file (48 * q) bytes) in
           let from = mass-own (rewritten (stoodAt order) (recordIn file q)) t ∙ ap (λ (own : List ℕ). numberAt 4 own 0) (mass-moved (recordIn file q) record48 (stoodAt order) (place-lt order ok) t m)
           ∙ sym (mass-own (recordIn file q) (stoodAt order t)) in
           sym (number (stoodAt order t) (place-lt order ok t m)) ∙ ap (bytesOf 4) (sym from ∙ equal q l t m) ∙ number t m

@@ -1,3 +1,4 @@
+pub mod Anew
 pub mod Bits
 pub mod Named
 pub mod Records

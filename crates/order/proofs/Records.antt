@@ -1,25 +1,42 @@
 -- Laws of a record that is rewritten: its head is the old one, and each mass is the old one of the place that it comes from.
 use mathlib.Core.Path.{_≡_, sym, ap, _∙_}
-use mathlib.Core.List.{List, _++_}
-use Prim.Native.Nat.{ℕ, _+_, _-_, _*_, _<_}
-use native.Mathlib.Nat.{add-sub-cancel-left}
+use mathlib.Core.List.{List, [], _∷_, _++_}
+use Prim.Native.Nat.{ℕ, zero, suc, _+_, _*_, _≤_, _<_}
 use native.Mathlib.Omega.{arith}
-use lib.ListN.{length, take, drop, length-append, length-drop}
-use lib.Seq.{length-take-le, take-at, drop-append-add}
-use Rattle.numbers.specs.Bytes.{numberAt}
+use lib.ListN.{length, take, drop, getD, length-append, length-drop}
+use lib.Seq.{length-take-le, take-at, drop-append-add, getD-take, getD-drop}
+use Rattle.numbers.specs.Bytes.{numberAt, bytesOf}
 use Rattle.numbers.specs.Lists.{joined}
-use Rattle.numbers.proofs.Bytes.{number-own}
+use Rattle.numbers.proofs.Bytes.{number-own, number-same, bytes-at}
 use Rattle.numbers.proofs.Joined.{joined-same, joined-length, joined-part}
 use Rattle.record.specs.Fields.{massOf}
-use Rattle.order.specs.Repair.{headOf, massBytes, rewritten, recordIn, numberOfRecords}
+use Rattle.order.specs.Repair.{headOf, massBytes, rewritten, recordAt, recordIn, numberOfRecords}
 
 pub mass-own : (bytes : List ℕ) (t : ℕ) → massOf bytes t ≡ numberAt 4 (massBytes bytes t) 0
 unfolding massOf
 mass-own bytes t = number-own 4 (16 + 4 * t) bytes
 
--- A part of so many bytes from a place on, as a slice has it.
-pub part-is : (at k : ℕ) (bytes : List ℕ) → take (at + k - at) (drop at bytes) ≡ take k (drop at bytes)
-part-is at k bytes = ap (λ (n : ℕ). take n (drop at bytes)) (add-sub-cancel-left at k)
+-- A number within the record that starts at a place of a file.
+pub number-in : (file : List ℕ) (at k j : ℕ) → j + k ≤ 48 → numberAt k (recordAt file at) j ≡ numberAt k file (at + j)
+number-in file at k j within =
+    number-same k (recordAt file at) file j (at + j)
+    (λ i l. let on : at + j + i ≡ at + (j + i) = omega arith in getD-take 48 (drop at file) (j + i) 0 (omega arith) ∙ getD-drop at file (j + i) 0 ∙ rw on)
+
+-- A record has 48 bytes, and where the file is bytes, so is the record.
+pub whole-at : (file : List ℕ) (at : ℕ) → at + 48 ≤ length file → length (recordAt file at) ≡ 48
+whole-at file at room = length-take-le 48 (drop at file) (omega (arith, length-drop at file))
+
+pub whole-record : (file : List ℕ) (q : ℕ) → q < numberOfRecords file → length (recordIn file q) ≡ 48
+whole-record file q l = whole-at file (48 * q) (omega arith)
+
+pub bytes-in : (file : List ℕ) (at : ℕ) → ((i : ℕ) → getD file i 0 < 256) → (i : ℕ) → getD (recordAt file at) i 0 < 256
+bytes-in file at small i = part 48 (drop at file) (λ j. rw (getD-drop at file j 0) (small (at + j))) i
+  where
+    part : (n : ℕ) (xs : List ℕ) → ((j : ℕ) → getD xs j 0 < 256) → (i : ℕ) → getD (take n xs) i 0 < 256
+    part zero xs h i = omega arith
+    part (suc n) [] h i = omega arith
+    part (suc n) (x ∷ xs) h zero = h 0
+    part (suc n) (x ∷ xs) h (suc i) = part n xs (λ j. h (suc j)) i
 
 pub rewritten-same : (from from′ : ℕ → ℕ) (bytes : List ℕ) → ((t : ℕ) → t < 8 → from t ≡ from′ t) → rewritten from bytes ≡ rewritten from′ bytes
 unfolding rewritten
@@ -29,6 +46,10 @@ rewritten-same from from′ bytes h =
 module _ (bytes : List ℕ) (size : length bytes ≡ 48) where
   head-length : length (headOf bytes) ≡ 16
   head-length = length-take-le 16 bytes (omega arith)
+
+  pub bytes-of-mass : ((i : ℕ) → getD bytes i 0 < 256) → (place : ℕ) → place < 8 → bytesOf 4 (massOf bytes place) ≡ massBytes bytes place
+  unfolding massOf
+  bytes-of-mass small place l = bytes-at 4 (16 + 4 * place) bytes (omega arith) small
 
   pub mass-length : (place : ℕ) → place < 8 → length (massBytes bytes place) ≡ 4
   mass-length place l = length-take-le 4 (drop (16 + 4 * place) bytes) (omega (arith, length-drop (16 + 4 * place) bytes))
@@ -56,7 +77,3 @@ module _ (bytes : List ℕ) (size : length bytes ≡ 48) where
 
     pub mass-from : (t : ℕ) → t < 8 → massOf (rewritten from bytes) t ≡ massOf bytes (from t)
     mass-from t l = mass-own (rewritten from bytes) t ∙ ap (λ (own : List ℕ). numberAt 4 own 0) (mass-moved t l) ∙ sym (mass-own bytes (from t))
-
--- A record of a file has 48 bytes.
-pub whole-record : (file : List ℕ) (q : ℕ) → q < numberOfRecords file → length (recordIn file q) ≡ 48
-whole-record file q l = length-take-le 48 (drop (48 * q) file) (omega (arith, length-drop (48 * q) file))

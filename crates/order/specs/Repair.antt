@@ -28,8 +28,11 @@ abbrev pub isOther : (from : ℕ → ℕ) (bytes : List ℕ) (t : ℕ) → Bool
 isOther from bytes t = not (eqb (massOf (rewritten from bytes) t) (massOf bytes t))
 
 -- The records of a file, from 0 on.
+abbrev pub recordAt : (file : List ℕ) (at : ℕ) → List ℕ
+recordAt file at = take recordBytes (drop at file)
+
 abbrev pub recordIn : (file : List ℕ) (q : ℕ) → List ℕ
-recordIn file q = take recordBytes (drop (recordBytes * q) file)
+recordIn file q = recordAt file (recordBytes * q)
 
 abbrev pub numberOfRecords : List ℕ → ℕ
 numberOfRecords file = length file / recordBytes

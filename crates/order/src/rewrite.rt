@@ -29,10 +29,8 @@ pub(crate) fn rewrite(file: &[u8], places: [usize; 8], out: &mut [u8], report: &
     let mut changed = 0u64;
     let mut q: usize = 0;
     while q < count {
-        let at = record::BYTES * q;
-        let end = at + record::BYTES;
-        let bits = write_record(&file[at..end], places, out, at);
-        numbers::write_u8(report, q, bits);
+        let bits = write_record(file, record::BYTES * q, places, out);
+        report[q] = bits;
         changed += ones_in(bits);
         q += 1;
     }

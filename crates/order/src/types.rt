@@ -3,7 +3,7 @@ ghost use mathlib.Core.Path.{_≡_};
 ghost use Prim.Native.Nat.{_+_};
 ghost use lib.Bits.{bitOr};
 ghost use lib.Dec.{eqb};
-ghost use Rattle.order.specs.Order.{eightBits, isOrder, typesSeen};
+ghost use Rattle.order.specs.Order.{eightBits, isOrder};
 
 // How many types there are, and the set of them all.
 const TYPES: u8 = 8;
@@ -23,19 +23,6 @@ fn seen_with(seen: u8, byte: u8) -> u8
     seen | 1 << (byte - 1)
 }
 
-// Answers the set of the types that are named.
-fn types_seen(order: &[u8]) -> u8
-    ensures { λ r. ⌜ r ≡ typesSeen (now (order .entry)) ⌝ }
-{
-    let mut seen = 0u8;
-    let mut p: usize = 0;
-    while p < order.len() {
-        seen = seen_with(seen, order[p]);
-        p += 1;
-    }
-    seen
-}
-
 // Tells whether eight bytes name each type once.
 pub(crate) fn is_order(order: &[u8]) -> bool
     ensures { λ r. ⌜ r ≡ isOrder (now (order .entry)) ⌝ }
@@ -43,5 +30,9 @@ pub(crate) fn is_order(order: &[u8]) -> bool
     if order.len() != TYPES as usize {
         return false;
     }
-    types_seen(order) == ALL
+    let mut seen = 0u8;
+    for p in 0..8usize {
+        seen = seen_with(seen, order[p]);
+    }
+    seen == ALL
 }

@@ -6,8 +6,10 @@ mod arguments;
 
 use arguments::Asked;
 use libc::STDOUT_FILENO;
-ghost use Prim.Native.Nat.{_≤_};
+ghost use mathlib.Core.Path.{_≡_};
+ghost use Prim.Native.Nat.{_+_, _≤_};
 ghost use lib.ListN.{length};
+ghost use Rattle.repair.specs.Rooms.{recordsTaken, fileBytes};
 
 // The most records of a file, ten times what a ledger takes: there is no heap.
 const RECORDS: usize = 12_000;
@@ -15,26 +17,51 @@ const RECORDS: usize = 12_000;
 // The bytes of the longest file.
 const FILE_BYTES: usize = record::BYTES * RECORDS;
 
-// Writes the file, or the lines of its report, to standard output, and tells whether that went well.
+// Answers the room for a file put right.
+fn file_room() -> [u8; FILE_BYTES]
+    ensures { λ r. ⌜ length r ≡ fileBytes ⌝ }
+{
+    [0u8; FILE_BYTES]
+}
+
+// Answers the room for a report.
+fn report_room() -> [u8; RECORDS]
+    ensures { λ r. ⌜ length r ≡ recordsTaken ⌝ }
+{
+    [0u8; RECORDS]
+}
+
+// Answers the room for a file that is read: a byte more than the longest has, so that a longer one is seen to be longer.
+fn input_room() -> [u8; FILE_BYTES + 1]
+    ensures { λ r. ⌜ length r ≡ fileBytes + 1 ⌝ }
+{
+    [0u8; FILE_BYTES + 1]
+}
+
+// Writes the file, or the lines of its report, to standard output, and tells whether that went well; a failure is told on standard error.
 fn write_out(reports: bool, file: &[u8], report: &[u8]) -> bool {
-    if reports {
-        return changes::print_report(report);
+    let written = if reports {
+        changes::print_report(report)
+    } else {
+        io::write_all(STDOUT_FILENO, file)
+    };
+    if !written {
+        os::fail(b"repair: standard output");
     }
-    io::write_all(STDOUT_FILENO, file)
+    written
 }
 
 // Puts a file right, and tells how that went; nothing is written of a refused one.
 fn put_right(reports: bool, types: &[u8], file: &[u8])
-    requires { ⌜ length (now file) ≤ 576000 ⌝ }
+    requires { ⌜ length (now file) ≤ fileBytes ⌝ }
 {
-    let mut out = [0u8; FILE_BYTES];
-    let mut report = [0u8; RECORDS];
+    let mut out = file_room();
+    let mut report = report_room();
     let repaired = order::repair(types, file, &mut out, &mut report);
     let bytes = file.len();
     let records = bytes / record::BYTES;
     if repaired.refusal == 0 {
         if !write_out(reports, &out[..bytes], &report[..records]) {
-            os::fail(b"repair: standard output");
             return;
         }
     }
@@ -45,7 +72,7 @@ fn put_right(reports: bool, types: &[u8], file: &[u8])
 fn put_input_right(reports: bool) {
     let mut types = [0u8; arguments::ORDER];
     let named = arguments::order_asked(&mut types);
-    let mut file = [0u8; FILE_BYTES + 1];
+    let mut file = input_room();
     let input = input::read_all(&mut file);
     if input.failed {
         os::fail(b"repair: standard input");

@@ -1,30 +1,37 @@
 -- A file of at most 12,000 records fits its buffers, whose lengths a repair keeps.
-use mathlib.Core.Path.{_≡_, refl, sym, _∙_}
+use mathlib.Core.Path.{_≡_, sym}
 use Prim.Native.Nat.{ℕ, _/_, _≤_}
 use native.Mathlib.Omega.{arith}
-use lib.ListN.{length, replicate, length-replicate}
+use lib.ListN.{length}
 use lib.Seq.{length-take-le}
+use Rattle.repair.specs.Rooms.{recordsTaken, fileBytes}
 use Rattle.repair.proofs.put_right.Statement.{statement}
 use Rattle.repair.proofs.put_right.Tie as tie
 
-fits : (room : ℕ) {n size : ℕ} → size ≡ length (replicate {A = ℕ} room 0) → n ≤ room → n ≤ size
-fits room kept h = rw (kept ∙ length-replicate {A = ℕ} room 0) h
+fits : {n room before after : ℕ} → n ≤ room → before ≡ room → after ≡ before → n ≤ after
+fits h room kept = omega arith
 
-few : (n : ℕ) → n ≤ 576000 → n / 48 ≤ 12000
+few : (n : ℕ) → n ≤ fileBytes → n / 48 ≤ recordsTaken
 few n h = omega arith
 
-file-fits : (c : tie.After-repair) → length (c .before .before .before .before .before .args .file .now) ≤ length (c .repair .last .1 .1 .0)
-file-fits c = fits 576000 (c .repair .kept .1 .1 .0) (c .before .before .before .before .before .pre)
+abbrev start : tie.After-repair → tie.Start
+start c = c .before .before .before .before .before .before .before
 
-report-fits : (c : tie.After-repair) → length (c .before .before .before .before .before .args .file .now) / 48 ≤ length (c .repair .last .1 .1 .1 .0)
-report-fits c = fits 12000 (c .repair .kept .1 .1 .1 .0) (few _ (c .before .before .before .before .before .pre))
+abbrev rooms : tie.After-repair → tie.After-report-room
+rooms c = c .before .before .before
+
+file-fits : (c : tie.After-repair) → length (start c .args .file .now) ≤ length (c .repair .last .1 .1 .0)
+file-fits c = fits (start c .pre) (rooms c .before .file-room .ensures) (c .repair .kept .1 .1 .0)
+
+report-fits : (c : tie.After-repair) → length (start c .args .file .now) / 48 ≤ length (c .repair .last .1 .1 .1 .0)
+report-fits c = fits (few _ (start c .pre)) (rooms c .report-room .ensures) (c .repair .kept .1 .1 .1 .0)
 
 pub put-right-spec : {M : Type 1} → statement M
 put-right-spec =
     tie.close
-    (tie.spec (λ c. sym (length-replicate {A = ℕ} 576000 0)) (λ c. sym (length-replicate {A = ℕ} 12000 0)) (λ c κs. tt)
+    (tie.spec (λ c κs. tt) (λ c κs. tt) (λ c. sym (c .before .before .file-room .ensures)) (λ c. sym (c .before .before .report-room .ensures)) (λ c κs. tt)
     (λ c. file-fits (c .before .before .before .before))
     (λ c. sym (length-take-le _ _ (file-fits (c .before .before .before .before .before))))
     (λ c. report-fits (c .before .before .before .before .before))
     (λ c. sym (length-take-le _ _ (report-fits (c .before .before .before .before .before .before))))
-    (λ c κs. tt) (λ c. refl) (λ c κs. tt) (λ c. tt) (λ c κs. tt) (λ c. tt))
+    (λ c κs. tt) (λ c. tt) (λ c κs. tt) (λ c. tt))

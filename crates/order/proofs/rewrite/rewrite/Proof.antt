@@ -7,7 +7,7 @@ use native.Mathlib.Omega.{arith}
 use borrow.Author.Needs.{needs}
 use denote.Ref.{now}
 use lib.Count.{ones}
-use lib.ListN.{length, getD, take, drop}
+use lib.ListN.{length, getD, set}
 use lib.Seq.{sets, length-sets}
 use Rattle.numbers.specs.Eight.{one, sumOf}
 use Rattle.numbers.specs.Lists.{joined}
@@ -16,7 +16,7 @@ use Rattle.numbers.proofs.Joined.{joined-more}
 use Rattle.order.specs.Order.{eightBits}
 use Rattle.order.specs.Repair.{rewritten, isOther, recordIn, numberOfRecords}
 use Rattle.order.proofs.Bits.{eight-most, ones-bits}
-use Rattle.order.proofs.Records.{part-is, whole-record, rewritten-length}
+use Rattle.order.proofs.Records.{whole-record, rewritten-length}
 use Rattle.order.proofs.rewrite.rewrite.Statement.{statement}
 use Rattle.order.proofs.rewrite.rewrite.Tie as tie
 
@@ -49,30 +49,17 @@ abbrev start : tie.In-loop Inv-loop μ-loop → tie.Start Inv-loop μ-loop
 start c = c .before .before .before .before .before
 
 abbrev begun : tie.After-ones-in Inv-loop μ-loop → tie.In-loop Inv-loop μ-loop
-begun c = c .before .before .before .before .before .before .before .before .before .before
-
--- the record at hand, and its bytes
-own : (c : tie.In-loop Inv-loop μ-loop) → let q = c .before .loop .q in let file = start c .args .file .now in
-    take (48 * q + 48 - 48 * q) (drop (48 * q) file) ≡ recordIn file q
-own c = part-is (48 * c .before .loop .q) 48 (start c .args .file .now)
-
-own-length : (c : tie.In-loop Inv-loop μ-loop) → let q = c .before .loop .q in let file = start c .args .file .now in
-    length (take (48 * q + 48 - 48 * q) (drop (48 * q) file)) ≡ 48
-own-length c = ap length (own c) ∙ whole-record (start c .args .file .now) (c .before .loop .q) (omega arith)
+begun c = c .before .before .before .before .before
 
 each-whole : (c : tie.Start Inv-loop μ-loop) → (q : ℕ) → q < numberOfRecords (c .args .file .now) → length (anew (c .args .file .now) (c .args .places) q) ≡ 48
 each-whole c q l = rewritten-length (recordIn (c .args .file .now) q) (whole-record (c .args .file .now) q l) (λ u. getD (c .args .places) u 0) (c .pre .2)
 
--- its byte of the report, and how many bits that has
-here : (c : tie.After-ones-in Inv-loop μ-loop) → let s = start (begun c) .args in
-    c .before .before .before .before .before .before .before .write-record .result ≡ eightBits (other (s .file .now) (s .places) (begun c .before .loop .q))
-here c = rw (own (begun c)) at (c .before .before .before .before .before .before .before .write-record .ensures .0)
-
+-- how many bits the record's byte of the report has
 counted : (c : tie.After-ones-in Inv-loop μ-loop) → let s = start (begun c) .args in c .ones-in .result ≡ bits (s .file .now) (s .places) (begun c .before .loop .q)
 unfolding eightBits
 counted c =
     let s = start (begun c) .args in
-    c .ones-in .ensures .0 ∙ ap ones (here c) ∙ ones-bits (other (s .file .now) (s .places) (begun c .before .loop .q)) 8
+    c .ones-in .ensures .0 ∙ ap ones (c .before .before .before .write-record .ensures .0) ∙ ones-bits (other (s .file .now) (s .places) (begun c .before .loop .q)) 8
 
 loop-again : tie.Need-loop-again Inv-loop μ-loop
 loop-again c =
@@ -80,19 +67,19 @@ loop-again c =
     let s = start d in
     let file = s .args .file .now in
     let places = s .args .places in
-    let q = d .before .loop .q in
-    let anew-at = c .before .before .before .before .before .before .before .write-record in
-    let byte-at = c .before .before .before .write-u8 in
+    let loop = d .before .loop in
+    let q = loop .q in
+    let wrote = c .before .before .before .write-record in
     let start-at : 0 + 48 * q ≡ 48 * q = omega arith in
     let place : 0 + 1 * q ≡ q = omega arith in
-    let wrote : anew-at .last .1 .1 .0 ≡ sets (d .before .loop .out) (0 + 48 * q) (anew file places q) = rw start-at (rw (own d) at (anew-at .ensures .1)) in
-    let noted : byte-at .last .0 ≡ sets (d .before .loop .report) (0 + 1 * q) (byte file places q) = rw (place, ← here c) (byte-at .ensures) in
-    let out = joined-more (anew file places) 48 (numberOfRecords file) (each-whole s) q (d .before .loop .inv .0) (s .args .out .now) 0 (d .before .loop .inv .1) wrote in
-    let report = joined-more (byte file places) 1 (numberOfRecords file) (λ t l. refl) q (d .before .loop .inv .0) (s .args .report .now) 0 (d .before .loop .inv .2) noted in (
+    let anew-at : wrote .last .1 .1 .1 .0 ≡ sets (loop .out) (0 + 48 * q) (anew file places q) = rw start-at (wrote .ensures .1) in
+    let noted : set (loop .report) q (wrote .result) ≡ sets (loop .report) (0 + 1 * q) (byte file places q) = rw place (ap (set (loop .report) q) (wrote .ensures .0)) in
+    let out = joined-more (anew file places) 48 (numberOfRecords file) (each-whole s) q (loop .inv .0) (s .args .out .now) 0 (loop .inv .1) anew-at in
+    let report = joined-more (byte file places) 1 (numberOfRecords file) (λ t l. refl) q (loop .inv .0) (s .args .report .now) 0 (loop .inv .2) noted in (
       omega arith,
       out,
       report,
-      sum-more (bits file places) q (d .before .loop .inv .3) (counted c),
+      sum-more (bits file places) q (loop .inv .3) (counted c),
       rw (out, length-sets),
       rw (report, length-sets),
     )
@@ -112,6 +99,6 @@ few c =
 pub rewrite-spec : {M : Type 1} → statement M
 rewrite-spec =
     tie.close
-    (tie.spec Inv-loop μ-loop (λ c. search needs) (λ c. search needs) (λ c. search needs) (λ c. search needs) (λ c. search needs) (λ c. omega arith)
-    (λ c κs. let d = c .before .before in (own-length d, omega arith, start d .pre .2)) (λ c κs. search needs) (λ c κs. search needs)
+    (tie.spec Inv-loop μ-loop (λ c. search needs) (λ c. search needs) (λ c κs. let d = c .before in (omega arith, omega arith, start d .pre .2))
+    (λ c. search needs) (λ c κs. search needs)
     (λ c. omega (arith, few c, c .ones-in .ensures .1)) (λ c. search needs) (λ c. search needs) loop-again (λ c. search needs) (λ c. search needs) returns)
