@@ -7,7 +7,7 @@ ghost use lib.ListN.{length};
 ghost use Rattle.image.specs.Image.{imageBytes};
 use ledger::Answer;
 use ledger::Ledger;
-use ledger::Outcome;
+use run::Outcome;
 
 // What stands ahead of a step's record, and of a run's records: the image, and the room in 2 bytes or in 4.
 pub const STEP_HEAD: usize = image::BYTES + 2;
