@@ -6,7 +6,6 @@ mod ratio;
 mod row;
 mod test;
 
-pub use copy::copy_four;
 pub use copy::write_bytes;
 pub use le::read_u16;
 pub use le::read_u32;

@@ -11,7 +11,6 @@ use Rattle.numbers.proofs.write_u64.Reads as write-u64
 use Rattle.numbers.proofs.read_eight.Reads as read-eight
 use Rattle.numbers.proofs.write_eight.Reads as write-eight
 use Rattle.numbers.proofs.write_bytes.Reads as write-bytes
-use Rattle.numbers.proofs.copy_four.Reads as copy-four
 use Rattle.numbers.proofs.is_between.Reads as is-between
 use Rattle.promise_answers.proofs.OneAnswer.{OneAnswer, Settled, by-equation}
 
@@ -47,9 +46,6 @@ write-eight-one = by-equation (λ κs a r s p. p)
 
 pub write-bytes-one : Settled write-bytes.Learnt (λ κs r s. now (s .0))
 write-bytes-one = by-equation (λ κs a r s p. p)
-
-pub copy-four-one : Settled copy-four.Learnt (λ κs r s. now (s .0))
-copy-four-one = by-equation (λ κs a r s p. p)
 
 pub is-between-one : OneAnswer is-between.Learnt
 is-between-one = by-equation (λ κs a r s p. p)
