@@ -2,6 +2,7 @@
 use denote.Ref.{now}
 use Rattle.ledger.proofs.book.Ledger.fresh.Reads as fresh
 use Rattle.ledger.proofs.book.Ledger.is_sound.Reads as is-sound
+use Rattle.ledger.proofs.are_sound.Reads as are-sound
 use Rattle.ledger.proofs.book.Ledger.totals.Reads as totals
 use Rattle.ledger.proofs.book.Ledger.enter.Reads as enter
 use Rattle.ledger.proofs.book.Ledger.refused.Reads as refused
@@ -13,6 +14,9 @@ fresh-one = by-equation (λ κs a r s p. p)
 
 pub is-sound-one : OneAnswer is-sound.Learnt
 is-sound-one = by-equation (λ κs a r s p. p)
+
+pub are-sound-one : OneAnswer are-sound.Learnt
+are-sound-one = by-equation (λ κs a r s p. p)
 
 pub totals-one : OneAnswer totals.Learnt
 totals-one = by-equation (λ κs a r s p. p)
