@@ -14,7 +14,7 @@ use Rattle.ledger.specs.Take.{acceptedOf, takeOf, writtenOf, outputRecord}
 use Rattle.run.specs.History.{Run, runOf}
 use Rattle.ledger.specs.declared.book.Ledger.{Ledger}
 use Rattle.ledger.specs.declared.answer.Answer.{Answer}
-use Rattle.ledger.proofs.Accepted.{accepted, has-room}
+use Rattle.ledger.proofs.Accepted.{accepted-meets, has-room}
 use Rattle.ledger.proofs.Take.{taken, take-refusal, refused-writes-nothing}
 use Rattle.run.proofs.History.{run-stops, run-ends}
 use Rattle.image.specs.Image.{imageBytes, noLedger, ledgerOf, imageOf, imaged}
@@ -28,7 +28,7 @@ accepted-image image bytes room e = by (eqb (length image) imageBytes) refl
   where
     by : (b : Bool) → eqb (length image) imageBytes ≡ b → length image ≡ imageBytes
     by true i = eqb-true (length image) imageBytes i
-    by false i = absurd (omega (arith, accepted noLedger bytes room (simp i at e) .more))
+    by false i = absurd (omega (arith, accepted-meets noLedger bytes room (simp i at e) .more))
 
 pub when-zero : (q : ℕ) (x y : List ℕ) → q ≡ 0 → cond (eqb q 0) x y ≡ x
 when-zero q x y e = ap (λ (b : Bool). cond b x y) (eq-eqb q 0 e)
@@ -78,9 +78,9 @@ module _ (image bytes out answer : List ℕ) (room : ℕ) (e : room ≡ roomOf (
   refusal-is : a .refusal ≡ refusalOf l bytes room
   refusal-is = ap (λ (x : Answer). x .refusal) (sym here) ∙ take-refusal l bytes room
 
-  pub out-is : {left : List ℕ} → left ≡ writtenOf l bytes part → left ++ drop room out ≡ takeOut image bytes out answer
+  pub output-left : {left : List ℕ} → left ≡ writtenOf l bytes part → left ++ drop room out ≡ takeOut image bytes out answer
   unfolding takeOut writtenOf
-  out-is w =
+  output-left w =
       elim (ℕ-discrete (refusalOf l bytes room) 0) [
         | yes z ↦
             let all : room ≡ length out = e ∙ room-all (length out) (length answer) (rw (← e) (omega (arith, has-room l bytes room z))) in

@@ -5,6 +5,7 @@ use Prim.Native.Nat.{ℕ, suc}
 use lib.Dec.{eqb, ltb}
 use lib.ListN.{length, getD, take, drop}
 use Rattle.numbers.specs.Bytes.{bytesOf, rowOf}
+use Rattle.record.specs.Fields.{recordBytes}
 use Rattle.ledger.specs.Take.{takeOf, outputRecord}
 use Rattle.run.specs.History.{Offer, Run, recordsOf, inTurn, runOf}
 use Rattle.ledger.specs.declared.answer.Answer.{Answer}
@@ -34,7 +35,7 @@ module _ (image bytes out answer : List ℕ) where
   takeImage = cond (eqb (takeHere .refusal) 0) (imageOf (takeHere .ledger)) image
 
   unfoldable pub takeOut : List ℕ
-  takeOut = cond (eqb (takeHere .refusal) 0) (outputRecord takeHere ++ drop 48 out) out
+  takeOut = cond (eqb (takeHere .refusal) 0) (outputRecord takeHere ++ drop recordBytes out) out
 
   unfoldable pub takeAnswer : List ℕ
   takeAnswer = answered takeHere answer

@@ -67,11 +67,13 @@ pub fn take(image: &mut [u8], record: &[u8], out: &mut [u8], answer: &mut [u8]) 
 {
     let room = room(out.len(), answer.len());
     let taken = take_one(image::read(image), record, &mut out[..room]);
-    write_answer(answer, taken);
-    if taken.refusal == 0 {
-        image::write(image, taken.ledger);
+    if taken.refusal != 0 {
+        write_answer(answer, taken);
+        return taken.refusal;
     }
-    taken.refusal
+    image::write(image, taken.ledger);
+    write_answer(answer, taken);
+    0
 }
 
 // Takes the records of a file one after another, writes an output record for each accepted one, and leaves the image of the

@@ -8,7 +8,7 @@ use Rattle.numbers.specs.Fraction.{Fraction, over, whole, _⊗_, _≼_}
 use Rattle.numbers.proofs.Fraction.{at-most-trans, at-most-below, times-at-most}
 use Rattle.decay.specs.Series.{E, Encloses, StandsFor, exponent, entryOf}
 use Rattle.waste.specs.Kind.{isKind}
-use Rattle.decay.proofs.Rule.{one-answer, listed}
+use Rattle.decay.proofs.Rule.{one-entry, listed}
 use Rattle.decay.proofs.Series.{enclosed}
 
 -- what holds of every rate over at least 1000 parts holds of the exponent of either kind
@@ -26,7 +26,7 @@ entry-meets-rule kind rate k low high = listed kind rate k low high .rule
 -- ... and the rule has no other answer.
 pub rule-has-one-answer : (kind rate D D′ : ℕ) → Encloses (exponent kind rate) D → Encloses (exponent kind rate) D′ → D ≡ D′
 rule-has-one-answer kind rate D D′ =
-    for-kind (λ x. Encloses x D → Encloses x D′ → D ≡ D′) kind rate (λ d h l. one-answer rate d h D D′)
+    for-kind (λ x. Encloses x D → Encloses x D′ → D ≡ D′) kind rate (λ d h l. one-entry rate d h D D′)
 
 -- An entry stands for a fraction: that of its billionths.
 pub stands-for-some : (D : ℕ) → StandsFor D (over D (10 ^ 9) (omega arith))

@@ -16,7 +16,7 @@ use Rattle.decay.specs.Series.{factorial, term, E, Encloses, roundedDown
 use Rattle.waste.specs.Kind.{isKind}
 use Rattle.decay.specs.ByMonth.{perBillionth, bracketOf, outwards, leftAfterMonth}
 use Rattle.decay.proofs.Series.{odd-term}
-use Rattle.decay.proofs.Sums.{alike, bottom-pos, summed, sum-is}
+use Rattle.decay.proofs.Sums.{sameSign, bottom-pos, summed, sum-is}
 use Rattle.decay.proofs.Every.{everyFrom, upTo, number-at}
 
 -- 10^9 × E(15), which the rule has from below, is below D + 1 too
@@ -35,8 +35,8 @@ module _ (p q : ℕ) (h : 0 < q) where
   unfolding roundedDown
   is-rounded-down D e = sym (div-eq-of-lt-le ((whole (10 ^ 9) ⊗ E x 15) .den) (omega (arith, e .low)) (omega (arith, under D e)))
 
-  pub one-answer : (D D′ : ℕ) → Encloses x D → Encloses x D′ → D ≡ D′
-  one-answer D D′ e e′ = is-rounded-down D e ∙ sym (is-rounded-down D′ e′)
+  pub one-entry : (D D′ : ℕ) → Encloses x D → Encloses x D′ → D ≡ D′
+  one-entry D D′ e e′ = is-rounded-down D e ∙ sym (is-rounded-down D′ e′)
 
 -- The rule for a sum (plus − minus) / den, multiplied out.
 from-below : (D plus minus den : ℕ) (h : 0 < den) → D * den + 10 ^ 9 * minus ≤ 10 ^ 9 * plus
@@ -60,7 +60,7 @@ module _ (p q : ℕ) (h : 0 < q) where
   within? D a b = low? D a b && high? D a b && ltb D (10 ^ 9)
 
   unfoldable pub encloses? : ℕ → Bool
-  encloses? D = within? D (alike p q h 13) (alike p q h 14)
+  encloses? D = within? D (sameSign p q h 13) (sameSign p q h 14)
 
   pub record Entry (D : ℕ) : Type 0 where
     pub rule : Encloses (over p q h) D
@@ -70,8 +70,8 @@ module _ (p q : ℕ) (h : 0 < q) where
   unfolding encloses? within? low? high?
   meets D ok =
       let x = over p q h in
-      let a = alike p q h 13 in
-      let b = alike p q h 14 in
+      let a = sameSign p q h 13 in
+      let b = sameSign p q h 14 in
       let rule = and-l (low? D a b && high? D a b) (ltb D (10 ^ 9)) ok in
       record {
         rule = record {
@@ -90,7 +90,7 @@ module _ (p q : ℕ) (h : 0 < q) where
 
   -- 10^9 × E(15) rounded down
   down : ℕ
-  down = let a = alike p q h 13 in let b = alike p q h 14 in (10 ^ 9 * (b * (q * 15)) - 10 ^ 9 * (a * (q * 14 * (q * 15)) + p ^ 15)) / (q ^ 15 * factorial 15)
+  down = let a = sameSign p q h 13 in let b = sameSign p q h 14 in (10 ^ 9 * (b * (q * 15)) - 10 ^ 9 * (a * (q * 14 * (q * 15)) + p ^ 15)) / (q ^ 15 * factorial 15)
 
 -- Every rate of a kind by one test, with a number for each; d is the denominator of the kind.
 module _ (d : ℕ) (h : 0 < d) (D : ℕ → ℕ) where

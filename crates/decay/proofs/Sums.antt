@@ -21,18 +21,18 @@ one-more up down ep em ed w k w′ t s e h =
 
 module _ (p q : ℕ) (h : 0 < q) where
   -- the terms of E(n) that have the sign of the last one, and the others, times q^n × n!
-  abbrev pub alike : ℕ → ℕ
-  alike zero = 1
-  alike (suc zero) = p
-  alike (suc (suc n)) = alike n * (q * suc n * (q * suc (suc n))) + p ^ suc (suc n)
+  abbrev pub sameSign : ℕ → ℕ
+  sameSign zero = 1
+  sameSign (suc zero) = p
+  sameSign (suc (suc n)) = sameSign n * (q * suc n * (q * suc (suc n))) + p ^ suc (suc n)
 
-  abbrev pub others : ℕ → ℕ
-  others zero = 0
-  others (suc n) = alike n * (q * suc n)
+  abbrev pub otherSign : ℕ → ℕ
+  otherSign zero = 0
+  otherSign (suc n) = sameSign n * (q * suc n)
 
-  alike-next : (n : ℕ) → alike (suc n) ≡ others n * (q * suc n) + p ^ suc n
-  alike-next zero = rw (pow-suc, pow-zero) (omega arith)
-  alike-next (suc n) = omega arith
+  sameSign-next : (n : ℕ) → sameSign (suc n) ≡ otherSign n * (q * suc n) + p ^ suc n
+  sameSign-next zero = rw (pow-suc, pow-zero) (omega arith)
+  sameSign-next (suc n) = omega arith
 
   pub bottom-pos : (n : ℕ) → 0 < q ^ n * factorial n
   bottom-pos n = mul-pos (one-le-pow n q h) (factorial-pos n)
@@ -40,8 +40,8 @@ module _ (p q : ℕ) (h : 0 < q) where
   abbrev pub summed : ℕ → Fraction
   summed n =
       record {
-        plus = cond (even n) (alike n) (others n);
-        minus = cond (even n) (others n) (alike n);
+        plus = cond (even n) (sameSign n) (otherSign n);
+        minus = cond (even n) (otherSign n) (sameSign n);
         den = q ^ n * factorial n;
         pos = bottom-pos n;
       }
@@ -55,12 +55,12 @@ module _ (p q : ℕ) (h : 0 < q) where
   next n = refl
 
   -- the next term joins those of its sign
-  plus-next : (n : ℕ) (b : Bool) → cond (not b) (alike (suc n)) (others (suc n)) ≡ cond b (alike n) (others n) * (q * suc n) + cond (not b) (p ^ suc n) 0
+  plus-next : (n : ℕ) (b : Bool) → cond (not b) (sameSign (suc n)) (otherSign (suc n)) ≡ cond b (sameSign n) (otherSign n) * (q * suc n) + cond (not b) (p ^ suc n) 0
   plus-next n true = omega arith
-  plus-next n false = alike-next n
+  plus-next n false = sameSign-next n
 
-  minus-next : (n : ℕ) (b : Bool) → cond (not b) (others (suc n)) (alike (suc n)) ≡ cond b (others n) (alike n) * (q * suc n) + cond (not b) 0 (p ^ suc n)
-  minus-next n true = alike-next n
+  minus-next : (n : ℕ) (b : Bool) → cond (not b) (otherSign (suc n)) (sameSign (suc n)) ≡ cond b (otherSign n) (sameSign n) * (q * suc n) + cond (not b) 0 (p ^ suc n)
+  minus-next n true = sameSign-next n
   minus-next n false = omega arith
 
   pub sum-is : (n : ℕ) → summed n ≈ E (over p q h) n
@@ -69,5 +69,5 @@ module _ (p q : ℕ) (h : 0 < q) where
   sum-is (suc n) =
       let w = the-term p q h (suc n) in
       rw (next n, w .up, w .down, w .bottom, pow-suc q n, plus-next n (even n), minus-next n (even n))
-      (one-more (cond (even n) (alike n) (others n)) (cond (even n) (others n) (alike n)) _ _ _ (q ^ n * factorial n) (q * suc n)
+      (one-more (cond (even n) (sameSign n) (otherSign n)) (cond (even n) (otherSign n) (sameSign n)) _ _ _ (q ^ n * factorial n) (q * suc n)
       (q ^ n * q * (suc n * factorial n)) _ _ (omega arith) (sum-is n))

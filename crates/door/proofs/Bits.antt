@@ -10,7 +10,7 @@ use lib.Pow.{pow-add, pow-pos, pow-mono}
 use lib.Ieee.{Float, nan, inf, fin, binary64, odd, ofFields, ofBits}
 use lib.Ieee.Exact.{HasValue, odd-sign}
 use borrow.Author.Tests.{ne-eqb, le-leb, lt-leb, leb-true, leb-false}
-use Rattle.door.specs.Cell.{wholeOf, refused, accepted, answerToNumber}
+use Rattle.door.specs.Cell.{wholeOf, refusedCell, acceptedCell, answerToNumber}
 use Rattle.door.specs.declared.cell.Numbers.{Numbers}
 use Rattle.door.proofs.Whole.{is-whole, has-fraction, above-limit}
 
@@ -57,40 +57,40 @@ module _ (b : ℕ) where
       let c : 2 ^ p * 2 ^ k ≡ 2 ^ 1074 = sym (pow-add 2 p k) ∙ ap (λ (j : ℕ). 2 ^ j) i in
       rw (same-sign s t f) (scaled number minus q (2 ^ p) (2 ^ k) (pow-pos k) (rw (d, c) (leading minus exponent (b % 2 ^ 52) l (omega arith))))
 
-  pub zero-is-0 : b % 2 ^ 63 ≡ 0 → accepted 0 ≡ answer
+  pub zero-is-0 : b % 2 ^ 63 ≡ 0 → acceptedCell 0 ≡ answer
   unfolding ofBits ofFields odd
   zero-is-0 z =
       let e : exponent ≡ 0 = omega arith in
       let t : b % 2 ^ 52 ≡ 0 = omega arith in
       rw (e, t) (either minus)
     where
-      either : (s : Bool) → accepted 0 ≡ answerToNumber (wholeOf (ofFields binary64 s 0 0))
+      either : (s : Bool) → acceptedCell 0 ≡ answerToNumber (wholeOf (ofFields binary64 s 0 0))
       either true = refl
       either false = refl
 
-  pub below-one-11 : 0 < b % 2 ^ 63 → exponent < 1023 → refused 11 ≡ answer
+  pub below-one-11 : 0 < b % 2 ^ 63 → exponent < 1023 → refusedCell 11 ≡ answer
   unfolding ofBits ofFields
   below-one-11 h l = at exponent refl
     where
-      below : (a c : ℕ) → 0 < a → a < 2 ^ 53 → 2 ^ 53 ≤ c → HasValue number minus a c → refused 11 ≡ answer
+      below : (a c : ℕ) → 0 < a → a < 2 ^ 53 → 2 ^ 53 ≤ c → HasValue number minus a c → refusedCell 11 ≡ answer
       below a c p s g v = rw (has-fraction number minus a c (rw (mod-eq-of-lt (lt-of-lt-of-le s g)) p) v)
 
-      at : (k : ℕ) → exponent ≡ k → refused 11 ≡ answer
+      at : (k : ℕ) → exponent ≡ k → refusedCell 11 ≡ answer
       at zero e = below (b % 2 ^ 52 * 2 ^ 0) (2 ^ 1074) (omega arith) (omega arith) (lit≤ tt) (rw e (odd-sign 53 minus (b % 2 ^ 52) 0 1074))
       at (suc k) e =
           let p = 1075 - exponent in
           let g : 53 ≤ p = omega arith in
           below digits (2 ^ p) (omega arith) (omega arith) (pow-mono g) (with-point minus digits p (leb-true (2 ^ 63) b) (leb-false (2 ^ 63) b) refl (omega arith) (omega arith))
 
-  pub not-finite-11 : exponent ≡ 2047 → refused 11 ≡ answer
+  pub not-finite-11 : exponent ≡ 2047 → refusedCell 11 ≡ answer
   unfolding ofBits ofFields
   not-finite-11 e = rw e (either (eqb (b % 2 ^ 52) 0))
     where
-      either : (t : Bool) → refused 11 ≡ answerToNumber (wholeOf (cond t (inf minus) nan))
+      either : (t : Bool) → refusedCell 11 ≡ answerToNumber (wholeOf (cond t (inf minus) nan))
       either true = refl
       either false = refl
 
-  pub large-12 : 1075 ≤ exponent → exponent < 2047 → refused 12 ≡ answer
+  pub large-12 : 1075 ≤ exponent → exponent < 2047 → refusedCell 12 ≡ answer
   unfolding ofBits
   large-12 l h =
       let k = exponent - 1075 in

@@ -10,7 +10,7 @@ use lib.Ieee.{Float, binary64, round, ofInt}
 use lib.Ieee.Back.{round-whole}
 use borrow.Author.Tests.{le-leb, leb-true}
 use Rattle.waste.specs.Waste.{massLimit}
-use Rattle.door.specs.Cell.{Whole, whole, not-whole, wholeOf, refused, accepted, numbersOf, answerToNumber, answerTo}
+use Rattle.door.specs.Cell.{Whole, whole, not-whole, wholeOf, refusedCell, acceptedCell, numbersOf, answerToNumber, answerTo}
 use Rattle.door.specs.declared.cell.Cell.{Cell}
 use Rattle.door.specs.declared.cell.Cell.the-variants.{Empty, Number}
 use Rattle.door.specs.declared.cell.Numbers.{Numbers}
@@ -30,8 +30,8 @@ same-case NotWhole = refl
 same-case OutOfRange = refl
 
 -- Each cell has one answer.
-pub one-answer : (cell : Cell) (a b : Weighed) → numbersOf a ≡ answerTo cell → numbersOf b ≡ answerTo cell → a ≡ b
-one-answer cell a b p q = sym (same-case a) ∙ ap caseOf (p ∙ sym q) ∙ same-case b
+pub one-mass : (cell : Cell) (a b : Weighed) → numbersOf a ≡ answerTo cell → numbersOf b ≡ answerTo cell → a ≡ b
+one-mass cell a b p q = sym (same-case a) ∙ ap caseOf (p ∙ sym q) ∙ same-case b
 
 -- The float of a whole number up to 2^53 is exactly that number.
 pub float-whole : (n : ℕ) → n ≤ 2 ^ 53 → wholeOf (ofInt binary64 (pos n)) ≡ whole (pos n)
@@ -42,18 +42,18 @@ float-whole n h = is-whole (round binary64 false n 1) false n 1 (lit< tt) (rw mu
 pub mass-read-back : (mass : ℕ) → mass ≤ massLimit → numbersOf (Mass mass) ≡ answerTo (Number (ofInt binary64 (pos mass)))
 mass-read-back mass h = rw (float-whole mass (le-trans h (lit≤ tt)), le-leb mass massLimit h)
 
-never : {A : Type 0} (mass n : ℕ) → accepted mass ≡ refused (suc n) → A
+never : {A : Type 0} (mass n : ℕ) → acceptedCell mass ≡ refusedCell (suc n) → A
 never mass n p = let z : 0 ≡ suc n = ap (λ (r : Numbers). r .refusal) p in absurd (omega arith)
 
 -- an accepted number is whole, the mass itself, and within the limit
-accepted-number : (w : Whole) (mass : ℕ) → accepted mass ≡ answerToNumber w → (w ≡ whole (pos mass)) × (mass ≤ massLimit)
+accepted-number : (w : Whole) (mass : ℕ) → acceptedCell mass ≡ answerToNumber w → (w ≡ whole (pos mass)) × (mass ≤ massLimit)
 accepted-number w mass p = at w p
   where
-    within : (b : Bool) (n : ℕ) → (b ≡ true → n ≤ massLimit) → accepted mass ≡ cond b (accepted n) (refused 12) → (whole (pos n) ≡ whole (pos mass)) × (mass ≤ massLimit)
+    within : (b : Bool) (n : ℕ) → (b ≡ true → n ≤ massLimit) → acceptedCell mass ≡ cond b (acceptedCell n) (refusedCell 12) → (whole (pos n) ≡ whole (pos mass)) × (mass ≤ massLimit)
     within false n h p = never mass 11 p
     within true n h p = let e : mass ≡ n = ap (λ (r : Numbers). r .mass) p in (rw e, rw e (h refl))
 
-    at : (w : Whole) → accepted mass ≡ answerToNumber w → (w ≡ whole (pos mass)) × (mass ≤ massLimit)
+    at : (w : Whole) → acceptedCell mass ≡ answerToNumber w → (w ≡ whole (pos mass)) × (mass ≤ massLimit)
     at not-whole p = never mass 10 p
     at (whole (negsuc n)) p = never mass 11 p
     at (whole (pos n)) p = within (leb n massLimit) n (leb-true n massLimit) p

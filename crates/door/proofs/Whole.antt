@@ -11,7 +11,7 @@ use lib.Ieee.Fits.{down-pos}
 use lib.Ieee.Exact.{HasValue}
 use borrow.Author.Tests.{ne-eqb, le-leb, lt-leb}
 use Rattle.waste.specs.Waste.{massLimit}
-use Rattle.door.specs.Cell.{whole, not-whole, signed, wholeOf, refused, accepted, answerToNumber}
+use Rattle.door.specs.Cell.{whole, not-whole, signed, wholeOf, refusedCell, acceptedCell, answerToNumber}
 
 pub is-whole : (v : Float) (s : Bool) (n c : ℕ) → 0 < c → HasValue v s (n * c) c → wholeOf v ≡ whole (signed s n)
 is-whole nan s n c p h = absurd h
@@ -34,29 +34,29 @@ has-fraction (fin t m e) s a c f h = rw (ne-eqb (m * up e % down e) 0 divided)
         let r : a % c ≡ 0 = ap (λ (k : ℕ). k % c) (eq-of-mul-eq-mul-right (down e) (down-pos e) a (n * c) (omega (arith, h .1))) ∙ mul-mod-left n c in
         omega arith
 
-below-zero : (n : ℕ) → 0 < n → refused 12 ≡ answerToNumber (whole (signed true n))
+below-zero : (n : ℕ) → 0 < n → refusedCell 12 ≡ answerToNumber (whole (signed true n))
 below-zero zero h = absurd (omega arith)
 below-zero (suc n) h = refl
 
-pub above-limit : (s : Bool) (n : ℕ) → massLimit < n → refused 12 ≡ answerToNumber (whole (signed s n))
+pub above-limit : (s : Bool) (n : ℕ) → massLimit < n → refusedCell 12 ≡ answerToNumber (whole (signed s n))
 above-limit true n h = below-zero n (omega arith)
 above-limit false n h = rw (lt-leb n massLimit h)
 
 -- the answers where the size is q / 2^p, and where it is the whole number n
 
 module _ (v : Float) (s : Bool) (q p : ℕ) (h : HasValue v s q (2 ^ p)) where
-  pub fraction-11 : 0 < q % 2 ^ p → refused 11 ≡ answerToNumber (wholeOf v)
+  pub fraction-11 : 0 < q % 2 ^ p → refusedCell 11 ≡ answerToNumber (wholeOf v)
   fraction-11 f = rw (has-fraction v s q (2 ^ p) f h)
 
   module _ (n : ℕ) (e : n * 2 ^ p ≡ q) where
     whole-n : wholeOf v ≡ whole (signed s n)
     whole-n = is-whole v s n (2 ^ p) (pow-pos p) (rw e h)
 
-    pub minus-12 : s ≡ true → 0 < q → refused 12 ≡ answerToNumber (wholeOf v)
+    pub minus-12 : s ≡ true → 0 < q → refusedCell 12 ≡ answerToNumber (wholeOf v)
     minus-12 t l = rw (whole-n, t) (below-zero n (lt-of-mul-lt-mul-right (2 ^ p) (omega arith)))
 
-    pub above-12 : massLimit < n → refused 12 ≡ answerToNumber (wholeOf v)
+    pub above-12 : massLimit < n → refusedCell 12 ≡ answerToNumber (wholeOf v)
     above-12 m = rw whole-n (above-limit s n m)
 
-    pub mass-is : s ≡ false → n ≤ massLimit → accepted n ≡ answerToNumber (wholeOf v)
+    pub mass-is : s ≡ false → n ≤ massLimit → acceptedCell n ≡ answerToNumber (wholeOf v)
     mass-is t m = rw (whole-n, t, le-leb n massLimit m)

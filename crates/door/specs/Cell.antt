@@ -12,19 +12,19 @@ use Rattle.door.specs.declared.cell.Weighed.{Weighed}
 use Rattle.door.specs.declared.cell.Weighed.the-variants.{Mass, EmptyCell, NotWhole, OutOfRange}
 
 -- A refused cell gives mass 0.
-abbrev pub refused : ℕ → Numbers
-refused number = record { refusal = number; mass = 0 }
+abbrev pub refusedCell : ℕ → Numbers
+refusedCell number = record { refusal = number; mass = 0 }
 
 -- An accepted cell has no refusal.
-abbrev pub accepted : ℕ → Numbers
-accepted mass = record { refusal = 0; mass = mass }
+abbrev pub acceptedCell : ℕ → Numbers
+acceptedCell mass = record { refusal = 0; mass = mass }
 
 -- The numbers of each case of the answer.
 abbrev pub numbersOf : Weighed → Numbers
-numbersOf (Mass mass) = accepted mass
-numbersOf EmptyCell = refused 10
-numbersOf NotWhole = refused 11
-numbersOf OutOfRange = refused 12
+numbersOf (Mass mass) = acceptedCell mass
+numbersOf EmptyCell = refusedCell 10
+numbersOf NotWhole = refusedCell 11
+numbersOf OutOfRange = refusedCell 12
 
 -- The whole number that a float is, if it is one.
 pub data Whole : Type 0 where
@@ -45,11 +45,11 @@ wholeOf (fin sign m e) = cond (eqb (m * up e % down e) 0) (whole (signed sign (m
 -- A number that is not whole, is infinite or is not a number is refused with 11. A whole number below 0 (negsuc n is −1 − n) or
 -- above 10^9 is refused with 12. Otherwise the answer is that mass.
 abbrev pub answerToNumber : Whole → Numbers
-answerToNumber not-whole = refused 11
-answerToNumber (whole (negsuc n)) = refused 12
-answerToNumber (whole (pos n)) = cond (leb n massLimit) (accepted n) (refused 12)
+answerToNumber not-whole = refusedCell 11
+answerToNumber (whole (negsuc n)) = refusedCell 12
+answerToNumber (whole (pos n)) = cond (leb n massLimit) (acceptedCell n) (refusedCell 12)
 
 -- An empty cell is refused with 10.
 abbrev pub answerTo : Cell → Numbers
-answerTo Empty = refused 10
+answerTo Empty = refusedCell 10
 answerTo (Number kg) = answerToNumber (wholeOf kg)

@@ -19,7 +19,7 @@ use Rattle.ledger.specs.Refusal.{sound, refusalOf}
 use Rattle.ledger.specs.Take.{acceptedOf, takeOf}
 use Rattle.ledger.specs.declared.book.Ledger.{Ledger}
 use Rattle.ledger.proofs.Sound.{sound-is}
-use Rattle.ledger.proofs.Accepted.{accepted, fresh-sound, accepted-sound}
+use Rattle.ledger.proofs.Accepted.{accepted-meets, fresh-sound, accepted-sound}
 use Rattle.ledger.proofs.Take.{taken, refused-keeps}
 use Rattle.image.specs.Image.{imageBytes, imageOf, freshLeft, saidBy, noLedger, ledgerOf, Kept}
 
@@ -100,7 +100,7 @@ said-kept image e = by (eqb (length image) imageBytes) refl
 pub accepted-kept : (l : Ledger) (bytes : List ℕ) (room : ℕ) → refusalOf l bytes room ≡ 0 → Kept (acceptedOf l bytes .ledger)
 unfolding acceptedOf after
 accepted-kept l bytes room e =
-    record { is-sound = accepted-sound l bytes (accepted l bytes room e); brought = refl; stock = refl; released = refl }
+    record { is-sound = accepted-sound l bytes (accepted-meets l bytes room e); brought = refl; stock = refl; released = refl }
 
 -- and so the ledger after any record, can be kept.
 pub step-kept : (l : Ledger) (bytes : List ℕ) (room : ℕ) → Kept l → Kept (takeOf l bytes room .ledger)

@@ -24,7 +24,7 @@ use Rattle.refusal.specs.Refusal.{continues, faultsOf}
 use Rattle.ledger.specs.Refusal.{sound, allZero, emptyAt, refusalOf}
 use Rattle.ledger.specs.Take.{acceptedOf}
 use Rattle.ledger.specs.declared.book.Ledger.{Ledger}
-use Rattle.ledger.proofs.Sound.{Sound, sound-is, is-sound}
+use Rattle.ledger.proofs.Sound.{Sound, sound-is, sound-by-parts}
 
 module _ (l : Ledger) (bytes : List ℕ) (room : ℕ) (e : refusalOf l bytes room ≡ 0) where
   -- The fault with a number is not there.
@@ -59,9 +59,9 @@ module _ (l : Ledger) (bytes : List ℕ) where
     pub shared : shares (l .n) (l .year) bytes ≡ true
     pub light-each : (t : ℕ) → t < 8 → light bytes t ≡ true
 
-  pub accepted : (room : ℕ) → refusalOf l bytes room ≡ 0 → Accepted
+  pub accepted-meets : (room : ℕ) → refusalOf l bytes room ≡ 0 → Accepted
   unfolding faultsOf coded continues
-  accepted room e =
+  accepted-meets room e =
       let full = eqb-false (l .n) mostRecords (none l bytes room e 4) in
       let s = sound-is l (was-sound l bytes room e) in
       let ranged = both-true (inRange (factorsOf bytes)) (dryInRange bytes) (not-false (inRange (factorsOf bytes) && dryInRange bytes) (none l bytes room e 8)) in
@@ -121,7 +121,7 @@ no-carbon l bytes a =
 pub stays-sound : (l : Ledger) (bytes : List ℕ) → Accepted l bytes → sound (after l bytes) ≡ true
 unfolding after
 stays-sound l bytes a =
-    is-sound (after l bytes) (omega (arith, a .more)) (λ z. omega arith) (simp (a .kind, a .climate))
+    sound-by-parts (after l bytes) (omega (arith, a .more)) (λ z. omega arith) (simp (a .kind, a .climate))
     (year-stays (l .n) (l .year) bytes (l .kind) (a .ledger .year) (λ some. a .same some .0) (a .ranges) (a .class))
     (λ t h. rw (eight-at (newBrought l bytes) t h, eight-at (newStock l bytes) t h, eight-at (newReleased l bytes) t h) (new-within l bytes a t h, new-parted l bytes a t h))
 

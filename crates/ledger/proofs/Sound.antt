@@ -34,7 +34,6 @@ YearSound l = soundYear (l .n) (l .kind) (l .year) ≡ true
 pub record Sound (l : Ledger) : Type 0 where
   pub few : l .n ≤ mostRecords
   pub at : (t : ℕ) → t < 8 → WithinCeiling l t
-  pub coded : (l .n ≡ 0 → ⊥) → (isKind (l .kind) ≡ true) × (isClimate (l .climate) ≡ true)
   pub year : YearSound l
 
 -- a ledger with no records
@@ -46,12 +45,7 @@ empty l few z e year =
     = λ t h. let q = three-true (eqb (broughtAt l t) 0) (eqb (stockAt l t) 0) (eqb (releasedAt l t) 0) (every-at (emptyAt l) 8 t h (p .1)) in
     let T = eqb-true (broughtAt l t) 0 (q .0) in
     within l t few (omega (arith, T)) (omega (arith, T, eqb-true (stockAt l t) 0 (q .1 .0), eqb-true (releasedAt l t) 0 (q .1 .1))) in
-    record {
-      few = few;
-      at = at;
-      coded = λ n. absurd (n z);
-      year = year;
-    }
+    record { few = few; at = at; year = year }
 
 -- a ledger with some
 ordered : (l : Ledger) → l .n ≤ mostRecords → inOrder l ≡ true → YearSound l → Sound l
@@ -61,12 +55,7 @@ ordered l few e year =
     let at : (t : ℕ) → t < 8 → WithinCeiling l t
     = λ t h. let q = three-true (leb (broughtAt l t) (ceilingOf (l .n) t)) (leb (stockAt l t) (broughtAt l t)) (eqb (releasedAt l t + stockAt l t) (broughtAt l t)) (every-at (withinAt l) 8 t h (p .1)) in
     within l t few (leb-true (broughtAt l t) (ceilingOf (l .n) t) (q .0)) (eqb-true (releasedAt l t + stockAt l t) (broughtAt l t) (q .1 .1)) in
-    record {
-      few = few;
-      at = at;
-      coded = λ n. both-true (isKind (l .kind)) (isClimate (l .climate)) (p .0);
-      year = year;
-    }
+    record { few = few; at = at; year = year }
 
 pub sound-is : (l : Ledger) → sound l ≡ true → Sound l
 unfolding sound
@@ -84,10 +73,10 @@ gone-is l e =
     eight-same (λ t. broughtAt l t - stockAt l t) (releasedAt l) (λ t h. omega (arith, sound-is l e .at t h .parted))
 
 -- A ledger with records, in order, is sound.
-pub is-sound : (l : Ledger) → l .n ≤ mostRecords → (l .n ≡ 0 → ⊥) → inCode l ≡ true → YearSound l
+pub sound-by-parts : (l : Ledger) → l .n ≤ mostRecords → (l .n ≡ 0 → ⊥) → inCode l ≡ true → YearSound l
     → ((t : ℕ) → t < 8 → (broughtAt l t ≤ ceilingOf (l .n) t) × (releasedAt l t + stockAt l t ≡ broughtAt l t)) → sound l ≡ true
 unfolding sound inOrder withinAt withinOf
-is-sound l few some code year at =
+sound-by-parts l few some code year at =
     let every : everyOf (withinAt l) 8 ≡ true
     = every-each (withinAt l) 8 (λ t h. let p = at t h in simp (
       le-leb (broughtAt l t) (ceilingOf (l .n) t) (p .0),

@@ -33,7 +33,7 @@ pub struct Ledger {
 }
 
 // Tells whether kind and climate are zero with no records, and codes with some.
-fn is_coded(n: u16, kind: u8, climate: u8) -> bool
+fn has_codes(n: u16, kind: u8, climate: u8) -> bool
     ensures { λ r. ⌜ r ≡ cond (eqb n 0) (eqb kind 0 && eqb climate 0) (isKind kind && isClimate climate) ⌝ }
 {
     if n == 0 {
@@ -63,7 +63,7 @@ pub fn are_sound<'a>(
     }) ⌝ }
 {
     let remembers = year.is_sound(n, kind);
-    is_coded(n, kind, climate) & carbon::are_within(n, brought, left, released) & remembers
+    has_codes(n, kind, climate) & carbon::are_within(n, brought, left, released) & remembers
 }
 
 impl Ledger {
@@ -212,7 +212,7 @@ impl Ledger {
     {
         let good = self.is_sound();
         let year = self.year;
-        let refusal = refusal::first(
+        let early = refusal::early(
             self.n,
             self.kind,
             self.climate,
@@ -221,6 +221,7 @@ impl Ledger {
             bytes,
             out.len(),
         );
+        let refusal = refusal::with_masses(early, bytes);
         if refusal != 0 {
             return self.refused(refusal);
         }

@@ -5,6 +5,7 @@ ghost use mathlib.Core.Path.{_≡_};
 ghost use Prim.Native.Nat.{_≤_};
 ghost use lib.ListN.{length};
 ghost use Rattle.image.specs.Image.{imageBytes};
+ghost use Rattle.lines.specs.Listing.{mostText};
 use ledger::Answer;
 use ledger::Ledger;
 use run::Outcome;
@@ -13,9 +14,6 @@ use run::Outcome;
 pub const STEP_HEAD: usize = image::BYTES + 2;
 
 pub const RUN_HEAD: usize = image::BYTES + 4;
-
-// The longest text of a listing: 90 bytes for every record that a ledger takes, and for the one that is refused.
-const LONGEST_TEXT: usize = 90 * (Ledger::RECORDS as usize + 1);
 
 // Prints the entry of a rate.
 pub fn decay(payload: &[u8])
@@ -97,10 +95,10 @@ pub fn run(payload: &[u8])
 }
 
 // Answers room for the text of any listing.
-fn text() -> [u8; LONGEST_TEXT]
-    ensures { λ r. ⌜ 108090 ≡ length r ⌝ }
+fn text() -> [u8; lines::TEXT]
+    ensures { λ r. ⌜ mostText ≡ length r ⌝ }
 {
-    [0; LONGEST_TEXT]
+    [0; lines::TEXT]
 }
 
 // Prints the listing of a file.

@@ -53,8 +53,8 @@ two-more n h =
 abbrev Few : ℕ → Type 0
 Few n = (k : ℕ) → n < 10 ^ suc k → length (decimalOf n) ≤ suc k
 
-pub few : (n : ℕ) → Few n
-few = by-digits Few (λ n h k b. rw (one-digit n h) (omega arith)) more
+pub few-digits : (n : ℕ) → Few n
+few-digits = by-digits Few (λ n h k b. rw (one-digit n h) (omega arith)) more
   where
     more : (n : ℕ) → 10 ≤ n → Few (n / 10) → Few n
     more n h rest zero b = absurd (omega arith)
@@ -89,11 +89,11 @@ read-on [] ys n = refl
 read-on (x ∷ xs) ys n = read-on xs ys (10 * n + (x - 48))
 
 -- The digits say the number.
-pub read-back : (n : ℕ) → readOn 0 (decimalOf n) ≡ n
-read-back =
+pub digits-read-back : (n : ℕ) → readOn 0 (decimalOf n) ≡ n
+digits-read-back =
     by-digits (λ n. readOn 0 (decimalOf n) ≡ n) (λ n h. rw (one-digit n h) (omega arith)) λ n h read.
     rw (more-digits n h, read-on (decimalOf (n / 10)) ((48 + n % 10) ∷ []) 0, read) (omega arith)
 
 -- Two different numbers have different texts.
 pub same-number : (m n : ℕ) → decimalOf m ≡ decimalOf n → m ≡ n
-same-number m n e = sym (read-back m) ∙ ap (readOn 0) e ∙ read-back n
+same-number m n e = sym (digits-read-back m) ∙ ap (readOn 0) e ∙ digits-read-back n

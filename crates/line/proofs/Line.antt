@@ -7,7 +7,7 @@ use lib.ListN.{length, take, length-append, length-replicate}
 use lib.Seq.{take-append-seam}
 use Rattle.line.specs.declared.form.Line.{Line}
 use Rattle.line.specs.Line.{lineText, acceptedText, refusedText, lineBytes, padded, Lendable}
-use Rattle.line.proofs.Decimal.{few}
+use Rattle.line.proofs.Decimal.{few-digits}
 
 -- 5 digits, 4 times 20, and a byte after each number.
 module _ {period x0 figure bound R : ℕ} (p : period < 2 ^ 16) (x : x0 < 2 ^ 64) (f : figure < 2 ^ 64) (b : bound < 2 ^ 64) (r : R < 2 ^ 64) where
@@ -16,14 +16,14 @@ module _ {period x0 figure bound R : ℕ} (p : period < 2 ^ 16) (x : x0 < 2 ^ 64
   accepted-length =
       simp length-append (
         omega arith,
-        omega (arith, few period 4 (omega arith), few x0 19 (omega arith), few figure 19 (omega arith), few bound 19 (omega arith), few R 19 (omega arith)),
+        omega (arith, few-digits period 4 (omega arith), few-digits x0 19 (omega arith), few-digits figure 19 (omega arith), few-digits bound 19 (omega arith), few-digits R 19 (omega arith)),
       )
 
 -- 18 bytes of words and spaces, 3 digits and 20, and a byte after each number.
 pub refused-length : {refusal place : ℕ} → refusal < 2 ^ 8 → place < 2 ^ 64 → let n = length (refusedText refusal place) in (1 ≤ n) × (n ≤ lineBytes)
 unfolding refusedText lineText
 refused-length {refusal} {place} h k =
-    simp length-append (omega arith, omega (arith, few refusal 2 (omega arith), few place 19 (omega arith)))
+    simp length-append (omega arith, omega (arith, few-digits refusal 2 (omega arith), few-digits place 19 (omega arith)))
 
 module _ (text : List ℕ) where
   pub line-text : take (padded text .len) (padded text .bytes) ≡ text

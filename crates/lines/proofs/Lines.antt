@@ -14,7 +14,7 @@ use Rattle.ledger.specs.Refusal.{refusalOf}
 use Rattle.ledger.specs.Take.{acceptedOf, outputRecord, outputFields}
 use Rattle.run.specs.History.{Turn, outputs, Run, runOf}
 use Rattle.ledger.specs.declared.book.Ledger.{Ledger}
-use Rattle.ledger.proofs.Accepted.{accepted}
+use Rattle.ledger.proofs.Accepted.{accepted-meets}
 use Rattle.ledger.proofs.Fits.{output-says}
 use Rattle.ledger.proofs.Take.{output-length}
 use Rattle.run.proofs.History.{onFrom, run-goes-on, run-stops, run-ends}
@@ -49,7 +49,7 @@ line-says : (l : Ledger) (bytes rest : List ℕ) (room : ℕ) → refusalOf l by
     → outputText (outputRecord (acceptedOf l bytes) ++ rest) 0 ≡ answerText (acceptedOf l bytes)
 unfolding outputText answerText outputFields
 line-says l bytes rest room e =
-    let s = output-says l bytes (accepted l bytes room e) rest in
+    let s = output-says l bytes (accepted-meets l bytes room e) rest in
     rw (s .period, s .x0, s .figure, s .bound, s .stock)
 
 pub lines-say : (l : Ledger) (xs : List (List ℕ)) (room : ℕ) (rest : List ℕ)

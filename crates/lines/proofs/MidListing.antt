@@ -55,9 +55,9 @@ module _ {text text′ line : List ℕ} {len end : ℕ} (w : Writes text len lin
 abbrev pub Answers : (file text₀ : List ℕ) → Listed → List ℕ → Type 0
 Answers file text₀ listed text = (listed ≡ listedOf file (length text₀)) × ((text ≡ textOf file text₀) × LendableText (listed .length) text)
 
-pub no-room : (file text : List ℕ) → length text < roomFor file → Answers file text (record { length = 0; refusal = 2 }) text
+pub text-too-short : (file text : List ℕ) → length text < roomFor file → Answers file text (record { length = 0; refusal = 2 }) text
 unfolding listedOf textOf
-no-room file text less =
+text-too-short file text less =
     let none = lt-leb (roomFor file) (length text) less in (simp none, (simp none, (omega arith, refl)))
 
 pub whole-text : (file text₀ : List ℕ) {text : List ℕ} {len : ℕ} → roomFor file ≤ length text₀ → Lists file text₀ text len

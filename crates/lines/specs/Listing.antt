@@ -6,6 +6,7 @@ use mathlib.Core.List.{List, [], _∷_, _++_}
 use Prim.Native.Nat.{ℕ, _+_, _*_, _≤_}
 use lib.Dec.{eqb, leb}
 use lib.ListN.{length, take, drop}
+use Rattle.record.specs.Fields.{recordBytes}
 use Rattle.carbon.specs.Carbon.{mostRecords}
 use Rattle.ledger.specs.Take.{totalStock}
 use Rattle.run.specs.History.{Turn, recordsOf, Run, wholeRun}
@@ -37,6 +38,13 @@ listingOf file = runText 1 (wholeRun file)
 -- A ledger takes 1200 records, so record 1201 is refused at the latest: there are no more lines than that, nor than records.
 unfoldable pub mostLines : (records : ℕ) → ℕ
 mostLines records = cond (leb records (mostRecords + 1)) records (mostRecords + 1)
+
+-- The bytes of the records that can matter, and the most that their text can have.
+abbrev pub mostFile : ℕ
+mostFile = recordBytes * (mostRecords + 1)
+
+abbrev pub mostText : ℕ
+mostText = lineBytes * (mostRecords + 1)
 
 -- A text has room that has the bytes of a line for every line.
 unfoldable pub roomFor : (file : List ℕ) → ℕ

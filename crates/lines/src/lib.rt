@@ -6,14 +6,20 @@ mod writing;
 use ledger::Ledger;
 use stretch::write_listing;
 ghost use mathlib.Core.Path.{_≡_};
-ghost use Prim.Native.Nat.{_+_, _/_, _≤_};
+ghost use Prim.Native.Nat.{_+_, _≤_};
 ghost use lib.ListN.{length};
-ghost use Rattle.record.specs.Fields.{recordBytes};
 ghost use Rattle.carbon.specs.Carbon.{mostRecords};
+ghost use Rattle.run.specs.History.{recordsBegun};
 ghost use Rattle.lines.specs.Listing.{mostLines, listedOf, textOf, LendableText};
 
 // The most lines that a file can have: one more than a ledger takes records.
 pub const LINES: usize = Ledger::RECORDS as usize + 1;
+
+// The bytes of the records that can matter: one more than a ledger takes is refused at the latest.
+pub const FILE: usize = record::BYTES * LINES;
+
+// The most bytes that their text can have.
+pub const TEXT: usize = line::BYTES * LINES;
 
 // How many bytes the listing has, and the refusal: 2 where the text has too little room, else 0.
 pub struct Listed {
@@ -23,9 +29,10 @@ pub struct Listed {
 
 // Answers the most lines that so many bytes of records can have.
 fn most_lines(bytes: usize) -> usize
-    ensures { λ r. ⌜ (r ≡ mostLines ((bytes + 47) / recordBytes)) × (r ≤ mostRecords + 1) ⌝ }
+    ensures { λ r. ⌜ (r ≡ mostLines (recordsBegun bytes)) × (r ≤ mostRecords + 1) ⌝ }
 {
-    let begun = bytes / record::BYTES + (bytes % record::BYTES + 47) / record::BYTES;
+    let begun = bytes / record::BYTES
+        + (bytes % record::BYTES + (record::BYTES - 1)) / record::BYTES;
     if begun <= LINES { begun } else { LINES }
 }
 

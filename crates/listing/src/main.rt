@@ -2,19 +2,10 @@
 // It reads records from standard input and writes what `lines::listing` says of them to standard output.
 use libc::STDOUT_FILENO;
 
-// The records that can matter: one more than a ledger takes is refused at the latest.
-const RECORDS: usize = lines::LINES;
-
-// Their bytes.
-const FILE_BYTES: usize = record::BYTES * RECORDS;
-
-// The most bytes that their lines can have.
-const TEXT_BYTES: usize = line::BYTES * RECORDS;
-
 // Lists standard input, or says on standard error what failed; nothing is listed of an input that was not read to its end.
 fn main() {
-    let mut file = [0u8; FILE_BYTES];
-    let mut text = [0u8; TEXT_BYTES];
+    let mut file = [0u8; lines::FILE];
+    let mut text = [0u8; lines::TEXT];
     let input = input::read_all(&mut file);
     if input.failed {
         os::fail(b"listing: standard input");

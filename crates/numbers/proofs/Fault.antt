@@ -18,10 +18,10 @@ module _ (low x high : ℕ) (e : between low x high ≡ true) where
   between-high = leb-true x high (both-true (leb low x) (leb x high) e .1)
 
 -- No fault has the number 0.
-abbrev pub numbered : List Fault → Bool
-numbered [] = true
-numbered ((zero, bad) ∷ rest) = false
-numbered ((suc number, bad) ∷ rest) = numbered rest
+abbrev pub allNumbered : List Fault → Bool
+allNumbered [] = true
+allNumbered ((zero, bad) ∷ rest) = false
+allNumbered ((suc number, bad) ∷ rest) = allNumbered rest
 
 -- Whether the fault with a number is there.
 abbrev pub isBad : ℕ → List Fault → Bool
@@ -38,7 +38,7 @@ not-there true h = refl
 not-there false h = h
 
 -- Where none is found, the fault with any number is not there.
-pub clear : (k : ℕ) (faults : List Fault) → numbered faults ≡ true → firstOf faults ≡ 0 → isBad k faults ≡ false
+pub clear : (k : ℕ) (faults : List Fault) → allNumbered faults ≡ true → firstOf faults ≡ 0 → isBad k faults ≡ false
 clear k [] n e = refl
 clear k ((zero, bad) ∷ rest) n e = cc
 clear k ((suc number, true) ∷ rest) n e = absurd (omega arith)
@@ -60,7 +60,7 @@ module _ (k : ℕ) where
   Parted all early late =
       ((firstOf early ≡ 0 → ⊥) → firstOf all ≡ firstOf early) × (firstOf early ≡ 0 → firstOf all ≡ firstOf late)
 
-  pub parted : (faults : List Fault) → numbered faults ≡ true → Parted faults (ahead k faults) (onward k faults)
+  pub parted : (faults : List Fault) → allNumbered faults ≡ true → Parted faults (ahead k faults) (onward k faults)
   parted [] n = (λ h. refl, λ h. refl)
   parted ((zero, bad) ∷ rest) n = let z : _≡_ {A = ℕ} 0 1 = cc in absurd (omega arith)
   parted ((suc number, bad) ∷ rest) n = by-test (eqb (suc number) k) bad (parted rest n)
@@ -76,7 +76,7 @@ module _ (k : ℕ) where
 abbrev firstWith : (number : ℕ) (bad : Bool) (early late : ℕ) → ℕ
 firstWith number bad early late = cond (eqb early 0) (cond bad number late) early
 
-pub inserted-first : (k number : ℕ) (bad : Bool) (faults : List Fault) → numbered faults ≡ true
+pub inserted-first : (k number : ℕ) (bad : Bool) (faults : List Fault) → allNumbered faults ≡ true
     → firstOf (inserted k (number when bad) faults) ≡ firstWith number bad (firstOf (ahead k faults)) (firstOf (onward k faults))
 inserted-first k number bad [] n = refl
 inserted-first k number bad ((zero, other) ∷ rest) n = cc
@@ -101,7 +101,7 @@ inserted-absent k number bad ((m, other) ∷ rest) e = by-test (eqb m k) (insert
     by-test false on = rw on
 
 -- Where none is found, none is found without it, and it is not there.
-pub inserted-clear : (k number : ℕ) (bad : Bool) (faults : List Fault) → numbered (number when bad ∷ faults) ≡ true
+pub inserted-clear : (k number : ℕ) (bad : Bool) (faults : List Fault) → allNumbered (number when bad ∷ faults) ≡ true
     → firstOf (inserted k (number when bad) faults) ≡ 0 → (firstOf faults ≡ 0) × (bad ≡ false)
 inserted-clear k zero bad faults n e = (cc, cc)
 inserted-clear k (suc number) false faults n e = (sym (inserted-absent k (suc number) false faults refl) ∙ e, refl)
@@ -112,14 +112,14 @@ inserted-clear k (suc number) true faults n e = absurd (some (firstOf (ahead k f
     some (suc m) z = let own : suc m ≡ 0 = rw (eqb·suc-zero m) at z in omega arith
 
 -- With it, still none has the number 0.
-pub inserted-numbered : (k number : ℕ) (bad : Bool) (faults : List Fault) → numbered (number when bad ∷ faults) ≡ true
-    → numbered (inserted k (number when bad) faults) ≡ true
+pub inserted-numbered : (k number : ℕ) (bad : Bool) (faults : List Fault) → allNumbered (number when bad ∷ faults) ≡ true
+    → allNumbered (inserted k (number when bad) faults) ≡ true
 inserted-numbered k zero bad faults n = cc
 inserted-numbered k (suc number) bad [] n = refl
 inserted-numbered k (suc number) bad ((zero, other) ∷ rest) n = cc
 inserted-numbered k (suc number) bad ((suc m, other) ∷ rest) n = by-test (eqb (suc m) k) (inserted-numbered k (suc number) bad rest n)
   where
-    by-test : (here : Bool) → numbered (inserted k (suc number when bad) rest) ≡ true
-        → numbered (cond here (suc number when bad ∷ suc m when other ∷ rest) (suc m when other ∷ inserted k (suc number when bad) rest)) ≡ true
+    by-test : (here : Bool) → allNumbered (inserted k (suc number when bad) rest) ≡ true
+        → allNumbered (cond here (suc number when bad ∷ suc m when other ∷ rest) (suc m when other ∷ inserted k (suc number when bad) rest)) ≡ true
     by-test true on = n
     by-test false on = on

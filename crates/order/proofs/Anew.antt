@@ -14,13 +14,13 @@ use Rattle.numbers.specs.Lists.{joined}
 use Rattle.numbers.proofs.Bytes.{sets-join, bytes-at}
 use Rattle.numbers.proofs.Joined.{joined-more}
 use Rattle.record.specs.Fields.{massOf}
-use Rattle.order.specs.Repair.{headOf, massBytes, recordAt, rewritten, isOther}
+use Rattle.order.specs.Repair.{recordHead, massBytes, recordFrom, rewritten, isOther}
 use Rattle.order.proofs.Bits.{bitsBelow, set-next, pass-next}
 use Rattle.order.proofs.Records.{whole-at, bytes-in, bytes-of-mass, mass-length, mass-from}
 
 module _ (file : List ℕ) (at : ℕ) (places : List ℕ) where
   abbrev pub bytes : List ℕ
-  bytes = recordAt file at
+  bytes = recordFrom file at
 
   abbrev pub moved : ℕ → List ℕ
   moved t = massBytes bytes (getD places t 0)
@@ -62,7 +62,7 @@ two-written xs ys out at n size p q wrote wrote-on = wrote-on ∙ rw (wrote, p, 
 -- two numbers of 8 bytes are the bytes before the masses
 pub head-written : (file out : List ℕ) (at : ℕ) {a b : ℕ} {m r : List ℕ} → at + 48 ≤ length file → ((i : ℕ) → getD file i 0 < 256)
     → a ≡ numberAt 8 file at → b ≡ numberAt 8 file (at + 8) → m ≡ sets out at (bytesOf 8 a) → r ≡ sets m (at + 8) (bytesOf 8 b)
-    → r ≡ sets out at (headOf (recordAt file at))
+    → r ≡ sets out at (recordHead (recordFrom file at))
 head-written file out at long small p q wrote wrote-on =
     let bytes = drop at file in
     two-written (take 8 bytes) (take 8 (drop 8 bytes)) out at 8 (length-take-le 8 bytes (omega (arith, length-drop at file)))

@@ -85,26 +85,26 @@ module _ (order file : List ℕ) where
 
   module _ (out report : List ℕ) where
     -- what comes back, and what the buffers then hold
-    abbrev pub Ends : Repaired → (out′ report′ : List ℕ) → Type 0
-    Ends r out′ report′ = (r ≡ repairedOf order file out report) × ((out′ ≡ outLeft order file out report) × (report′ ≡ reportLeft order file out report))
+    abbrev pub Leaves : Repaired → (out′ report′ : List ℕ) → Type 0
+    Leaves r out′ report′ = (r ≡ repairedOf order file out report) × ((out′ ≡ outLeft order file out report) × (report′ ≡ reportLeft order file out report))
 
     refused : (number : ℕ) → repairRefusal order file out report ≡ suc number → {r : Repaired} → r ≡ record { refusal = suc number; changed = 0 }
-        → Ends r out report
+        → Leaves r out report
     unfolding repairedOf outLeft reportLeft
     refused number e p = let no = ne-eqb (suc number) 0 (λ z. omega arith) in (p ∙ simp (e, no), (simp (e, no), simp (e, no)))
 
-    pub no-order : isOrder order ≡ false → {r : Repaired} → r ≡ record { refusal = 20; changed = 0 } → Ends r out report
+    pub no-order : isOrder order ≡ false → {r : Repaired} → r ≡ record { refusal = 20; changed = 0 } → Leaves r out report
     unfolding repairFaults
     no-order e = refused 19 (simp e)
 
     module _ (ok : isOrder order ≡ true) where
-      pub not-whole : (length file % 48 ≡ 0 → ⊥) → {r : Repaired} → r ≡ record { refusal = 21; changed = 0 } → Ends r out report
+      pub not-whole : (length file % 48 ≡ 0 → ⊥) → {r : Repaired} → r ≡ record { refusal = 21; changed = 0 } → Leaves r out report
       unfolding repairFaults
       not-whole e = refused 20 (simp (ok, ne-eqb (length file % 48) 0 e))
 
       module _ (whole : length file % 48 ≡ 0) where
         pub no-room : (ltb (length out) (length file) || ltb (length report) (numberOfRecords file)) ≡ true
-            → {r : Repaired} → r ≡ record { refusal = 22; changed = 0 } → Ends r out report
+            → {r : Repaired} → r ≡ record { refusal = 22; changed = 0 } → Leaves r out report
         unfolding repairFaults
         no-room e = refused 21 (simp (ok, eq-eqb (length file % 48) 0 whole, e))
 
@@ -113,9 +113,9 @@ module _ (order file : List ℕ) where
           unfolding repairFaults
           none-refused = simp (ok, eq-eqb (length file % 48) 0 whole, room)
 
-          pub refusal-is : repairedOf order file out report .refusal ≡ 0
+          pub repair-accepted : repairedOf order file out report .refusal ≡ 0
           unfolding repairedOf
-          refusal-is = none-refused
+          repair-accepted = none-refused
 
           pub changed-is : repairedOf order file out report .changed ≡ bitsSet order file
           unfolding repairedOf
@@ -129,11 +129,11 @@ module _ (order file : List ℕ) where
           unfolding reportLeft
           report-is = simp none-refused
 
-          pub accepted : (places : List ℕ) → places ≡ eight (stoodAt order) → {changed : ℕ} {out′ report′ : List ℕ}
+          pub file-rewritten : (places : List ℕ) → places ≡ eight (stoodAt order) → {changed : ℕ} {out′ report′ : List ℕ}
               → changed ≡ bitsBy places → out′ ≡ sets out 0 (fileBy places) → report′ ≡ sets report 0 (reportBy places)
-              → Ends (record { refusal = 0; changed = changed }) out′ report′
+              → Leaves (record { refusal = 0; changed = changed }) out′ report′
           unfolding repairedOf
-          accepted places e n p q =
+          file-rewritten places e n p q =
               let fits = rooms file out report room in
               let long : length (newFile order file) ≡ length file = omega (arith, new-length ok, whole) in (
                 simp (none-refused, n, all-bits-set places e),

@@ -15,24 +15,24 @@ use Rattle.numbers.proofs.Eight.{sum-each, sum-none}
 use Rattle.numbers.proofs.Joined.{joined-same, joined-part, joined-parts}
 use Rattle.record.specs.Fields.{massOf}
 use Rattle.order.specs.Order.{eightBits, isOrder}
-use Rattle.order.specs.Repair.{headOf, massBytes, rewritten, isOther, recordIn, numberOfRecords, stoodAt, newFile, reportOf, bitsSet}
+use Rattle.order.specs.Repair.{recordHead, massBytes, rewritten, isOther, recordIn, numberOfRecords, stoodAt, newFile, reportOf, bitsSet}
 use Rattle.order.proofs.Bits.{no-bits-set}
 use Rattle.order.proofs.Named.{place-lt, type-at, place-back}
 use Rattle.order.proofs.Records.{bytes-in, mass-own, bytes-of-mass, rewritten-length, head-kept, mass-moved, whole-record}
 
 -- A record is its head and its eight masses.
-pub record-again : (bytes : List ℕ) → length bytes ≡ 48 → headOf bytes ++ joined (massBytes bytes) 8 ≡ bytes
+pub record-again : (bytes : List ℕ) → length bytes ≡ 48 → recordHead bytes ++ joined (massBytes bytes) 8 ≡ bytes
 record-again bytes size =
     let masses : joined (massBytes bytes) 8 ≡ drop 16 bytes =
     joined-same (massBytes bytes) (λ t. take 4 (drop (4 * t) (drop 16 bytes))) 8 (λ t l. ap (take 4) (sym (drop-drop (4 * t) 16 bytes)))
     ∙ joined-parts 4 (drop 16 bytes) 8 ∙ take-all 32 (drop 16 bytes) (omega (arith, length-drop 16 bytes))
     in
-    ap (λ (xs : List ℕ). headOf bytes ++ xs) masses ∙ take-append-drop 16 bytes
+    ap (λ (xs : List ℕ). recordHead bytes ++ xs) masses ∙ take-append-drop 16 bytes
 
 -- A record whose masses all come from their own places is the old one.
 pub record-kept : (from : ℕ → ℕ) (bytes : List ℕ) → length bytes ≡ 48 → ((t : ℕ) → t < 8 → massBytes bytes (from t) ≡ massBytes bytes t) → rewritten from bytes ≡ bytes
 unfolding rewritten
-record-kept from bytes size h = ap (λ (xs : List ℕ). headOf bytes ++ xs) (joined-same _ _ 8 h) ∙ record-again bytes size
+record-kept from bytes size h = ap (λ (xs : List ℕ). recordHead bytes ++ xs) (joined-same _ _ 8 h) ∙ record-again bytes size
 
 -- A file of whole records is its records.
 pub file-again : (file : List ℕ) → length file % 48 ≡ 0 → joined (recordIn file) (numberOfRecords file) ≡ file

@@ -10,26 +10,26 @@ use Rattle.numbers.specs.Lists.{joined}
 use Rattle.numbers.proofs.Bytes.{number-own, number-same, bytes-at}
 use Rattle.numbers.proofs.Joined.{joined-same, joined-length, joined-part}
 use Rattle.record.specs.Fields.{massOf}
-use Rattle.order.specs.Repair.{headOf, massBytes, rewritten, recordAt, recordIn, numberOfRecords}
+use Rattle.order.specs.Repair.{recordHead, massBytes, rewritten, recordFrom, recordIn, numberOfRecords}
 
 pub mass-own : (bytes : List ℕ) (t : ℕ) → massOf bytes t ≡ numberAt 4 (massBytes bytes t) 0
 unfolding massOf
 mass-own bytes t = number-own 4 (16 + 4 * t) bytes
 
 -- A number within the record that starts at a place of a file.
-pub number-in : (file : List ℕ) (at k j : ℕ) → j + k ≤ 48 → numberAt k (recordAt file at) j ≡ numberAt k file (at + j)
+pub number-in : (file : List ℕ) (at k j : ℕ) → j + k ≤ 48 → numberAt k (recordFrom file at) j ≡ numberAt k file (at + j)
 number-in file at k j within =
-    number-same k (recordAt file at) file j (at + j)
+    number-same k (recordFrom file at) file j (at + j)
     (λ i l. let on : at + j + i ≡ at + (j + i) = omega arith in getD-take 48 (drop at file) (j + i) 0 (omega arith) ∙ getD-drop at file (j + i) 0 ∙ rw on)
 
 -- A record has 48 bytes, and where the file is bytes, so is the record.
-pub whole-at : (file : List ℕ) (at : ℕ) → at + 48 ≤ length file → length (recordAt file at) ≡ 48
+pub whole-at : (file : List ℕ) (at : ℕ) → at + 48 ≤ length file → length (recordFrom file at) ≡ 48
 whole-at file at room = length-take-le 48 (drop at file) (omega (arith, length-drop at file))
 
 pub whole-record : (file : List ℕ) (q : ℕ) → q < numberOfRecords file → length (recordIn file q) ≡ 48
 whole-record file q l = whole-at file (48 * q) (omega arith)
 
-pub bytes-in : (file : List ℕ) (at : ℕ) → ((i : ℕ) → getD file i 0 < 256) → (i : ℕ) → getD (recordAt file at) i 0 < 256
+pub bytes-in : (file : List ℕ) (at : ℕ) → ((i : ℕ) → getD file i 0 < 256) → (i : ℕ) → getD (recordFrom file at) i 0 < 256
 bytes-in file at small i = part 48 (drop at file) (λ j. rw (getD-drop at file j 0) (small (at + j))) i
   where
     part : (n : ℕ) (xs : List ℕ) → ((j : ℕ) → getD xs j 0 < 256) → (i : ℕ) → getD (take n xs) i 0 < 256
@@ -41,10 +41,10 @@ bytes-in file at small i = part 48 (drop at file) (λ j. rw (getD-drop at file j
 pub rewritten-same : (from from′ : ℕ → ℕ) (bytes : List ℕ) → ((t : ℕ) → t < 8 → from t ≡ from′ t) → rewritten from bytes ≡ rewritten from′ bytes
 unfolding rewritten
 rewritten-same from from′ bytes h =
-    ap (λ (xs : List ℕ). headOf bytes ++ xs) (joined-same _ _ 8 (λ t l. ap (massBytes bytes) (h t l)))
+    ap (λ (xs : List ℕ). recordHead bytes ++ xs) (joined-same _ _ 8 (λ t l. ap (massBytes bytes) (h t l)))
 
 module _ (bytes : List ℕ) (size : length bytes ≡ 48) where
-  head-length : length (headOf bytes) ≡ 16
+  head-length : length (recordHead bytes) ≡ 16
   head-length = length-take-le 16 bytes (omega arith)
 
   pub bytes-of-mass : ((i : ℕ) → getD bytes i 0 < 256) → (place : ℕ) → place < 8 → bytesOf 4 (massOf bytes place) ≡ massBytes bytes place
@@ -61,18 +61,18 @@ module _ (bytes : List ℕ) (size : length bytes ≡ 48) where
     pub rewritten-length : length (rewritten from bytes) ≡ 48
     unfolding rewritten
     rewritten-length =
-        length-append (headOf bytes) (joined (λ t. massBytes bytes (from t)) 8)
+        length-append (recordHead bytes) (joined (λ t. massBytes bytes (from t)) 8)
         ∙ omega (arith, head-length, joined-length (λ t. massBytes bytes (from t)) 4 8 each-four 8 (omega arith))
 
-    pub head-kept : headOf (rewritten from bytes) ≡ headOf bytes
+    pub head-kept : recordHead (rewritten from bytes) ≡ recordHead bytes
     unfolding rewritten
-    head-kept = take-at (headOf bytes) (joined (λ t. massBytes bytes (from t)) 8) 16 head-length
+    head-kept = take-at (recordHead bytes) (joined (λ t. massBytes bytes (from t)) 8) 16 head-length
 
     pub mass-moved : (t : ℕ) → t < 8 → massBytes (rewritten from bytes) t ≡ massBytes bytes (from t)
     unfolding rewritten
     mass-moved t l =
         ap (λ (n : ℕ). take 4 (drop (n + 4 * t) (rewritten from bytes))) (sym head-length)
-        ∙ ap (take 4) (drop-append-add (headOf bytes) (joined (λ t. massBytes bytes (from t)) 8) (4 * t))
+        ∙ ap (take 4) (drop-append-add (recordHead bytes) (joined (λ t. massBytes bytes (from t)) 8) (4 * t))
         ∙ joined-part (λ t. massBytes bytes (from t)) 4 8 each-four 8 t (omega arith) l
 
     pub mass-from : (t : ℕ) → t < 8 → massOf (rewritten from bytes) t ≡ massOf bytes (from t)

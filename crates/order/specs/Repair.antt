@@ -13,26 +13,26 @@ use Rattle.order.specs.Order.{eightBits, isOrder, placeOf}
 use Rattle.order.specs.declared.Repaired.{Repaired}
 
 -- What a record has ahead of its masses, and the 4 bytes of the mass at a place.
-abbrev pub headOf : List ℕ → List ℕ
-headOf bytes = take 16 bytes
+abbrev pub recordHead : List ℕ → List ℕ
+recordHead bytes = take 16 bytes
 
 abbrev pub massBytes : (bytes : List ℕ) (place : ℕ) → List ℕ
 massBytes bytes place = take 4 (drop (16 + 4 * place) bytes)
 
 -- 'with every mass at its type's place [..]. Other bytes are copied': the mass of place t comes from another place of the old record.
 unfoldable pub rewritten : (from : ℕ → ℕ) → List ℕ → List ℕ
-rewritten from bytes = headOf bytes ++ joined (λ t. massBytes bytes (from t)) 8
+rewritten from bytes = recordHead bytes ++ joined (λ t. massBytes bytes (from t)) 8
 
 -- 'the mass at place t is not the mass that stood there before'
 abbrev pub isOther : (from : ℕ → ℕ) (bytes : List ℕ) (t : ℕ) → Bool
 isOther from bytes t = not (eqb (massOf (rewritten from bytes) t) (massOf bytes t))
 
 -- The records of a file, from 0 on.
-abbrev pub recordAt : (file : List ℕ) (at : ℕ) → List ℕ
-recordAt file at = take recordBytes (drop at file)
+abbrev pub recordFrom : (file : List ℕ) (at : ℕ) → List ℕ
+recordFrom file at = take recordBytes (drop at file)
 
 abbrev pub recordIn : (file : List ℕ) (q : ℕ) → List ℕ
-recordIn file q = recordAt file (recordBytes * q)
+recordIn file q = recordFrom file (recordBytes * q)
 
 abbrev pub numberOfRecords : List ℕ → ℕ
 numberOfRecords file = length file / recordBytes

@@ -3,7 +3,8 @@ ghost use mathlib.Core.Path.{_≡_};
 ghost use Prim.Native.Nat.{_≤_};
 ghost use lib.ListN.{length};
 ghost use lib.Seq.{sets};
-ghost use Rattle.output.specs.Output.{headOf, fiveOf, written};
+ghost use Rattle.record.specs.Fields.{recordBytes};
+ghost use Rattle.output.specs.Output.{outputHead, fiveOf, written};
 
 // What an output record says: period, kind, climate, x0 in mg, figure and bound in grams CO2e, total R and total T in mg.
 pub struct Output {
@@ -19,8 +20,8 @@ pub struct Output {
 
 // Writes the first 8 bytes: period, kind, climate and zeros.
 fn write_head(out: &mut [u8], period: u16, kind: u8, climate: u8)
-    requires { ⌜ 48 ≤ length (now out) ⌝ }
-    ensures { λ _. ⌜ now (out .exit) ≡ sets (now (out .entry)) 0 (headOf period kind climate) ⌝ }
+    requires { ⌜ recordBytes ≤ length (now out) ⌝ }
+    ensures { λ _. ⌜ now (out .exit) ≡ sets (now (out .entry)) 0 (outputHead period kind climate) ⌝ }
 {
     numbers::write_u16(out, 0, period as u64);
     numbers::write_u8(out, 2, kind);
@@ -30,7 +31,7 @@ fn write_head(out: &mut [u8], period: u16, kind: u8, climate: u8)
 
 // Writes the five numbers after them.
 fn write_five(out: &mut [u8], x0: u64, figure: u64, bound: u64, stock: u64, brought: u64)
-    requires { ⌜ 48 ≤ length (now out) ⌝ }
+    requires { ⌜ recordBytes ≤ length (now out) ⌝ }
     ensures { λ _. ⌜ now (out .exit) ≡ sets (now (out .entry)) 8 (fiveOf x0 figure bound stock brought) ⌝ }
 {
     numbers::write_u64(out, 8, x0);
@@ -44,7 +45,7 @@ fn write_five(out: &mut [u8], x0: u64, figure: u64, bound: u64, stock: u64, brou
 pub fn write(out: &mut [u8], says: Output)
     ensures { λ _. ⌜ now (out .exit) ≡ written says (now (out .entry)) ⌝ }
 {
-    if out.len() < 48 {
+    if out.len() < record::BYTES {
         return;
     }
     write_head(out, says.period, says.kind, says.climate);

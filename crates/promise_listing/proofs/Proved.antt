@@ -21,7 +21,7 @@ says-own : (l : Ledger) (bytes : List ℕ) (room : ℕ) → takeOf l bytes room 
 unfolding outputFields acceptedOf after answerText
 says-own l bytes room e =
     let zero = sym (take-refusal l bytes room) ∙ e in
-    let period = step.accepted l bytes room zero .period in
+    let period = step.accepted-meets l bytes room zero .period in
     rw (taken l bytes room zero)
     (record { own-period = omega (arith, period); own-kind = refl; own-climate = refl; own-line = rw period })
 

@@ -60,7 +60,7 @@ module _ (o : Offering) (r : OneByOne o) (bytes : List ℕ) (room : ℕ) (e : re
       rw (records-more o bytes, at, record-latest (recordsIn o) bytes)
 
   own : remembered (l .n) (l .year) bytes ≡ yearOf bytes
-  own = remembers-own (l .n) (l .year) bytes (eq-eqb (kindOf bytes) 2 month) (step.accepted l bytes room e .shared)
+  own = remembers-own (l .n) (l .year) bytes (eq-eqb (kindOf bytes) 2 month) (step.accepted-meets l bytes room e .shared)
 
   -- what is then remembered is that of the record that began the year
   module _ (so-far : (l .n ≡ 0 → ⊥) → Shared o) where
@@ -97,7 +97,7 @@ shared : (o : Offering) → OneByOne o → o .ledger .kind ≡ 2 → Shared o
 unfolding fresh after
 shared _ none-yet k = record { each = λ i low high. absurd (omega (arith, low, high)); kept = λ some. absurd (omega (arith, some)) }
 shared _ (one-more o bytes room r e) k =
-    shared-on o r bytes room e k (λ some. shared o r (sym (step.accepted (o .ledger) bytes room e .same some .0) ∙ k))
+    shared-on o r bytes room e k (λ some. shared o r (sym (step.accepted-meets (o .ledger) bytes room e .same some .0) ∙ k))
 
 same-three : (one other : List ℕ) → yearOf one ≡ yearOf other → SameYear one other
 unfolding yearOf
@@ -106,7 +106,7 @@ same-three one other e =
 
 ledger-sound : (o : Offering) → OneByOne o → sound (o .ledger) ≡ true
 ledger-sound _ none-yet = step.fresh-sound
-ledger-sound _ (one-more o bytes room r e) = step.stays-sound (o .ledger) bytes (step.accepted (o .ledger) bytes room e)
+ledger-sound _ (one-more o bytes room r e) = step.stays-sound (o .ledger) bytes (step.accepted-meets (o .ledger) bytes room e)
 
 pub months-share : (o : Offering) → OneByOne o → MonthsShare o
 months-share o r =

@@ -21,7 +21,7 @@ use Rattle.order.proofs.Records.{mass-from, whole-record}
 use Rattle.order.proofs.Answer.{rooms, new-length, report-length, changed-is, out-is, report-is}
 use Rattle.order.proofs.Files.{in-record, report-at, new-record, head-byte, mass-byte, record-kept, file-kept, nothing-counted, nothing-reported, file-same}
 use Rattle.order.proofs.Back as undone
-use Rattle.promise_order.specs.Shuffled.{Shuffled, righted, NamesEach, number, Room, massAt, timesAt, bitOf, PutRight, copied, Inverse, again, BroughtBack}
+use Rattle.promise_order.specs.Shuffled.{Shuffled, righted, NamesEach, number, Room, massAt, timesAt, bitOf, PutRight, fileCopied, Inverse, again, BroughtBack}
 use Rattle.promise_order.proofs.Shuffled.{Passed, when-passed, names-each, is-order, same-righted, repair-where}
 
 -- A mass of a file is that of its record.
@@ -123,13 +123,13 @@ module _ (s : Shuffled) (p : Passed s) where
       }
 
   -- A new file that is the old one: copied, and nothing reported.
-  copied-when : new ≡ file → righted s ≡ copied s
+  copied-when : new ≡ file → righted s ≡ fileCopied s
   copied-when same =
       same-righted (p .not-refused) (answer-now ∙ nothing-counted (s .order) file (p .order-fine) (p .whole) same)
       (out-now ∙ ap (λ (xs : List ℕ). xs ++ drop (length file) (s .out)) same)
       (report-now ∙ ap (λ (xs : List ℕ). xs ++ drop (number s) (s .report)) (nothing-reported (s .order) file (p .order-fine) (p .whole) same))
 
-  pub in-order : s .order ≡ 1 ∷ 2 ∷ 3 ∷ 4 ∷ 5 ∷ 6 ∷ 7 ∷ 8 ∷ [] → righted s ≡ copied s
+  pub in-order : s .order ≡ 1 ∷ 2 ∷ 3 ∷ 4 ∷ 5 ∷ 6 ∷ 7 ∷ 8 ∷ [] → righted s ≡ fileCopied s
   in-order e =
       let named : (t : ℕ) → t < 8 → getD (s .order) t 0 ≡ t + 1 = λ t l. ap (λ (xs : List ℕ). getD xs t 0) e ∙ eight-at (λ t. t + 1) t l in
       let stood : (t : ℕ) → t < 8 → stoodAt (s .order) t ≡ t = λ t l. ap (placeOf (s .order)) (sym (named t l)) ∙ place-back (s .order) (p .order-fine) t l in

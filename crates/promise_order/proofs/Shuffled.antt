@@ -13,8 +13,8 @@ use Rattle.order.specs.Order.{isOrder, typesSeen, placeOf}
 use Rattle.order.specs.Repair.{numberOfRecords, repairedOf, outLeft, reportLeft}
 use Rattle.order.specs.declared.Repaired.{Repaired}
 use Rattle.order.proofs.Named.{eight-bytes, named-at, order-when, full-set, place-lt, at-place, place-back}
-use Rattle.order.proofs.Answer.{rooms, no-order, not-whole, no-room, refusal-is}
-use Rattle.promise_order.specs.Shuffled.{Shuffled, Righted, righted, NamesEach, number, Whole, Room, untouched}
+use Rattle.order.proofs.Answer.{rooms, no-order, not-whole, no-room, repair-accepted}
+use Rattle.promise_order.specs.Shuffled.{Shuffled, Righted, righted, NamesEach, number, WholeRecords, Room, nothingWritten}
 
 -- An order as the request says it, and as it is tested.
 pub names-each : (order : List ℕ) → isOrder order ≡ true → NamesEach order
@@ -52,15 +52,15 @@ module _ (s : Shuffled) where
 
   -- The tests in their order, and what comes of each.
   data Tested : Type 0 where
-    at-20 : isOrder (s .order) ≡ false → righted s ≡ untouched 20 s → Tested
-    at-21 : isOrder (s .order) ≡ true → (length (s .file) % 48 ≡ 0 → ⊥) → righted s ≡ untouched 21 s → Tested
-    at-22 : isOrder (s .order) ≡ true → length (s .file) % 48 ≡ 0 → tooShort ≡ true → righted s ≡ untouched 22 s → Tested
+    at-20 : isOrder (s .order) ≡ false → righted s ≡ nothingWritten 20 s → Tested
+    at-21 : isOrder (s .order) ≡ true → (length (s .file) % 48 ≡ 0 → ⊥) → righted s ≡ nothingWritten 21 s → Tested
+    at-22 : isOrder (s .order) ≡ true → length (s .file) % 48 ≡ 0 → tooShort ≡ true → righted s ≡ nothingWritten 22 s → Tested
     passed : isOrder (s .order) ≡ true → length (s .file) % 48 ≡ 0 → tooShort ≡ false → righted s .refusal ≡ 0 → Tested
 
   -- a refusal as `repair` answers it
   refused : (n : ℕ) → (record { refusal = n; changed = 0 } ≡ repairedOf (s .order) (s .file) (s .out) (s .report))
       × ((s .out ≡ outLeft (s .order) (s .file) (s .out) (s .report)) × (s .report ≡ reportLeft (s .order) (s .file) (s .out) (s .report)))
-      → righted s ≡ untouched n s
+      → righted s ≡ nothingWritten n s
   refused n e =
       same-righted (sym (ap (λ (r : Repaired). r .refusal) (e .0))) (sym (ap (λ (r : Repaired). r .changed) (e .0))) (sym (e .1 .0)) (sym (e .1 .1))
 
@@ -69,7 +69,7 @@ module _ (s : Shuffled) where
     where
       by-room : isOrder (s .order) ≡ true → length (s .file) % 48 ≡ 0 → (b : Bool) → tooShort ≡ b → Tested
       by-room ok whole true short = at-22 ok whole short (refused 22 (no-room (s .order) (s .file) (s .out) (s .report) ok whole short refl))
-      by-room ok whole false fits = passed ok whole fits (refusal-is (s .order) (s .file) (s .out) (s .report) ok whole fits)
+      by-room ok whole false fits = passed ok whole fits (repair-accepted (s .order) (s .file) (s .out) (s .report) ok whole fits)
 
       by-order : (b : Bool) → isOrder (s .order) ≡ b → Tested
       by-order false unnamed = at-20 unnamed (refused 20 (no-order (s .order) (s .file) (s .out) (s .report) unnamed refl))
@@ -99,10 +99,10 @@ module _ (s : Shuffled) where
   not-named : isOrder (s .order) ≡ false → NamesEach (s .order) → ⊥
   not-named unnamed n = true≢false (sym (is-order (s .order) n) ∙ unnamed)
 
-  whole-when : length (s .file) % 48 ≡ 0 → Whole s
+  whole-when : length (s .file) % 48 ≡ 0 → WholeRecords s
   whole-when e = omega arith
 
-  part-when : (length (s .file) % 48 ≡ 0 → ⊥) → Whole s → ⊥
+  part-when : (length (s .file) % 48 ≡ 0 → ⊥) → WholeRecords s → ⊥
   part-when part w = part (omega (arith, w))
 
   short-when : tooShort ≡ true → Room s → ⊥
@@ -110,64 +110,64 @@ module _ (s : Shuffled) where
       true≢false (sym short ∙ ap₂ (λ (a b : Bool). a || b) (le-ltb (length (s .out)) (length (s .file)) (fits .0)) (le-ltb (length (s .report)) (number s) (fits .1)))
 
   -- the refusal of one case is not that of another
-  differs : (m n : ℕ) → (m ≡ n → ⊥) → righted s ≡ untouched m s → righted s ≡ untouched n s → ⊥
+  differs : (m n : ℕ) → (m ≡ n → ⊥) → righted s ≡ nothingWritten m s → righted s ≡ nothingWritten n s → ⊥
   differs m n h p q = h (ap (λ (r : Righted). r .refusal) (sym p ∙ q))
 
-  pub repair-where : (righted s .refusal ≡ 0) ↔ (NamesEach (s .order) × Whole s × Room s)
+  pub repair-where : (righted s .refusal ≡ 0) ↔ (NamesEach (s .order) × WholeRecords s × Room s)
   repair-where = (to, from tested)
     where
-      to : righted s .refusal ≡ 0 → NamesEach (s .order) × Whole s × Room s
+      to : righted s .refusal ≡ 0 → NamesEach (s .order) × WholeRecords s × Room s
       to z = let p = when-passed z in (names-each (s .order) (p .order-fine), whole-when (p .whole), rooms (s .file) (s .out) (s .report) (p .fits))
 
-      from : Tested → NamesEach (s .order) × Whole s × Room s → righted s .refusal ≡ 0
+      from : Tested → NamesEach (s .order) × WholeRecords s × Room s → righted s .refusal ≡ 0
       from (at-20 unnamed e) h = absurd (not-named unnamed (h .0))
       from (at-21 ok part e) h = absurd (part-when part (h .1))
       from (at-22 ok whole short e) h = absurd (short-when short (h .2))
       from (passed ok whole fits e) h = e
 
-  zero-not : (n : ℕ) → righted s .refusal ≡ 0 → righted s ≡ untouched (suc n) s → ⊥
+  zero-not : (n : ℕ) → righted s .refusal ≡ 0 → righted s ≡ nothingWritten (suc n) s → ⊥
   zero-not n z e = omega (arith, ap (λ (r : Righted). r .refusal) e, z)
 
-  pub repair-20 : (righted s ≡ untouched 20 s) ↔ (NamesEach (s .order) → ⊥)
+  pub repair-20 : (righted s ≡ nothingWritten 20 s) ↔ (NamesEach (s .order) → ⊥)
   repair-20 = (to tested, from tested)
     where
-      to : Tested → righted s ≡ untouched 20 s → NamesEach (s .order) → ⊥
+      to : Tested → righted s ≡ nothingWritten 20 s → NamesEach (s .order) → ⊥
       to (at-20 unnamed e) q = not-named unnamed
       to (at-21 ok part e) q = absurd (differs 21 20 (λ x. omega arith) e q)
       to (at-22 ok whole short e) q = absurd (differs 22 20 (λ x. omega arith) e q)
       to (passed ok whole fits e) q = absurd (zero-not 19 e q)
 
-      from : Tested → (NamesEach (s .order) → ⊥) → righted s ≡ untouched 20 s
+      from : Tested → (NamesEach (s .order) → ⊥) → righted s ≡ nothingWritten 20 s
       from (at-20 unnamed e) h = e
       from (at-21 ok part e) h = absurd (h (names-each (s .order) ok))
       from (at-22 ok whole short e) h = absurd (h (names-each (s .order) ok))
       from (passed ok whole fits e) h = absurd (h (names-each (s .order) ok))
 
-  pub repair-21 : (righted s ≡ untouched 21 s) ↔ (NamesEach (s .order) × (Whole s → ⊥))
+  pub repair-21 : (righted s ≡ nothingWritten 21 s) ↔ (NamesEach (s .order) × (WholeRecords s → ⊥))
   repair-21 = (to tested, from tested)
     where
-      to : Tested → righted s ≡ untouched 21 s → NamesEach (s .order) × (Whole s → ⊥)
+      to : Tested → righted s ≡ nothingWritten 21 s → NamesEach (s .order) × (WholeRecords s → ⊥)
       to (at-20 unnamed e) q = absurd (differs 20 21 (λ x. omega arith) e q)
       to (at-21 ok part e) q = (names-each (s .order) ok, part-when part)
       to (at-22 ok whole short e) q = absurd (differs 22 21 (λ x. omega arith) e q)
       to (passed ok whole fits e) q = absurd (zero-not 20 e q)
 
-      from : Tested → NamesEach (s .order) × (Whole s → ⊥) → righted s ≡ untouched 21 s
+      from : Tested → NamesEach (s .order) × (WholeRecords s → ⊥) → righted s ≡ nothingWritten 21 s
       from (at-20 unnamed e) h = absurd (not-named unnamed (h .0))
       from (at-21 ok part e) h = e
       from (at-22 ok whole short e) h = absurd (h .1 (whole-when whole))
       from (passed ok whole fits e) h = absurd (h .1 (whole-when whole))
 
-  pub repair-22 : (righted s ≡ untouched 22 s) ↔ (NamesEach (s .order) × Whole s × (Room s → ⊥))
+  pub repair-22 : (righted s ≡ nothingWritten 22 s) ↔ (NamesEach (s .order) × WholeRecords s × (Room s → ⊥))
   repair-22 = (to tested, from tested)
     where
-      to : Tested → righted s ≡ untouched 22 s → NamesEach (s .order) × Whole s × (Room s → ⊥)
+      to : Tested → righted s ≡ nothingWritten 22 s → NamesEach (s .order) × WholeRecords s × (Room s → ⊥)
       to (at-20 unnamed e) q = absurd (differs 20 22 (λ x. omega arith) e q)
       to (at-21 ok part e) q = absurd (differs 21 22 (λ x. omega arith) e q)
       to (at-22 ok whole short e) q = (names-each (s .order) ok, whole-when whole, short-when short)
       to (passed ok whole fits e) q = absurd (zero-not 21 e q)
 
-      from : Tested → NamesEach (s .order) × Whole s × (Room s → ⊥) → righted s ≡ untouched 22 s
+      from : Tested → NamesEach (s .order) × WholeRecords s × (Room s → ⊥) → righted s ≡ nothingWritten 22 s
       from (at-20 unnamed e) h = absurd (not-named unnamed (h .0))
       from (at-21 ok part e) h = absurd (part-when part (h .1))
       from (at-22 ok whole short e) h = e

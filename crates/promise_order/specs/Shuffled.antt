@@ -7,6 +7,7 @@ use lib.Dec.{eqb}
 use lib.ListN.{length, getD, take, drop, replicate}
 use Rattle.numbers.specs.Bytes.{numberAt}
 use Rattle.numbers.specs.Eight.{one, sumOf}
+use Rattle.record.specs.Fields.{recordBytes}
 use Rattle.order.specs.Repair.{repairedOf, outLeft, reportLeft}
 
 -- What a call is handed: the order, the file, and the two buffers as they are.
@@ -45,17 +46,17 @@ pub record NamesEach (order : List ℕ) : Type 0 where
 
 -- The number of records, and that there is nothing behind them; room for the file and for a byte of the report for each record.
 abbrev pub number : Shuffled → ℕ
-number s = length (s .file) / 48
+number s = length (s .file) / recordBytes
 
-abbrev pub Whole : Shuffled → Type 0
-Whole s = length (s .file) ≡ 48 * number s
+abbrev pub WholeRecords : Shuffled → Type 0
+WholeRecords s = length (s .file) ≡ recordBytes * number s
 
 abbrev pub Room : Shuffled → Type 0
 Room s = (length (s .file) ≤ length (s .out)) × (number s ≤ length (s .report))
 
 -- The mass at place t of record q, as a number; at how many places of that record so many kilograms stand; and bit t of a byte.
 abbrev pub massAt : (file : List ℕ) (q t : ℕ) → ℕ
-massAt file q t = numberAt 4 file (48 * q + 16 + 4 * t)
+massAt file q t = numberAt 4 file (recordBytes * q + 16 + 4 * t)
 
 abbrev pub timesAt : (file : List ℕ) (q kg : ℕ) → ℕ
 timesAt file q kg = sumOf (λ t. one (eqb (massAt file q t) kg)) 8
@@ -66,11 +67,11 @@ bitOf byte t = byte / 2 ^ t % 2
 pub record PutRight (s : Shuffled) (r : Righted) : Type 0 where
   -- 'with every mass at its type's place': the mass of place p stands, byte for byte, where the type is that the order names at p;
   pub masses : (q p b : ℕ) → q < number s → p < 8 → b < 4
-      → getD (r .out) (48 * q + 16 + 4 * (getD (s .order) p 0 - 1) + b) 0 ≡ getD (s .file) (48 * q + 16 + 4 * p + b) 0
+      → getD (r .out) (recordBytes * q + 16 + 4 * (getD (s .order) p 0 - 1) + b) 0 ≡ getD (s .file) (recordBytes * q + 16 + 4 * p + b) 0
   -- so a record's eight masses are the old ones in another order.
   pub as-often : (q kg : ℕ) → q < number s → timesAt (r .out) q kg ≡ timesAt (s .file) q kg
   -- 'Other bytes are copied
-  pub others : (q i : ℕ) → q < number s → i < 16 → getD (r .out) (48 * q + i) 0 ≡ getD (s .file) (48 * q + i) 0
+  pub others : (q i : ℕ) → q < number s → i < 16 → getD (r .out) (recordBytes * q + i) 0 ≡ getD (s .file) (recordBytes * q + i) 0
   -- and bytes of either buffer past the file's need stay.'
   pub out-stays : drop (length (s .file)) (r .out) ≡ drop (length (s .file)) (s .out)
   pub report-stays : drop (number s) (r .report) ≡ drop (number s) (s .report)
@@ -83,12 +84,12 @@ pub record PutRight (s : Shuffled) (r : Righted) : Type 0 where
   pub counted : r .changed ≡ sumOf (λ q. sumOf (bitOf (getD (r .report) q 0)) 8) (number s)
 
 -- 'with nothing written and answer 0'
-abbrev pub untouched : (refusal : ℕ) → Shuffled → Righted
-untouched refusal s = record { refusal = refusal; changed = 0; out = s .out; report = s .report }
+abbrev pub nothingWritten : (refusal : ℕ) → Shuffled → Righted
+nothingWritten refusal s = record { refusal = refusal; changed = 0; out = s .out; report = s .report }
 
 -- The file copied, and nothing reported.
-abbrev pub copied : Shuffled → Righted
-copied s =
+abbrev pub fileCopied : Shuffled → Righted
+fileCopied s =
     record {
       refusal = 0;
       changed = 0;

@@ -25,7 +25,7 @@ use Rattle.ledger.specs.Step.{broughtAt, stockAt, releasedAt}
 use Rattle.ledger.specs.Refusal.{sound, allZero, inCode, inOrder, withinAt, refusalOf, NoneAhead}
 use Rattle.ledger.specs.Take.{takeOf}
 use Rattle.ledger.specs.declared.book.Ledger.{Ledger}
-use Rattle.ledger.proofs.Sound.{is-sound}
+use Rattle.ledger.proofs.Sound.{sound-by-parts}
 use Rattle.ledger.proofs.Take.{take-refusal}
 use Rattle.promise_sludge.specs.Sludge.{mOf, industrialPercent, domesticPercent, hundredths, defaults, highest, depositBy, withinBy, soundBy, Dry, AlikeButDry}
 
@@ -148,7 +148,7 @@ still-sound l e =
       | yes z ↦ sound-by l ∙ simp (p .0, eq-eqb (l .n) 0 z, simp (eq-eqb (l .n) 0 z) at (p .1 .0), p .1 .1)
       | no z ↦
           let q = both-true (inCode l) (everyOf (withinBy defaults l) 8) (simp (ne-eqb (l .n) 0 z) at (p .1 .0)) in
-          is-sound l (leb-true (l .n) 1200 (p .0)) z (q .0) (p .1 .1)
+          sound-by-parts l (leb-true (l .n) 1200 (p .0)) z (q .0) (p .1 .1)
           (λ t h.
           let w = three-true (leb (broughtAt l t) (l .n * 10 ^ 9 * getD defaults t 0 * 100)) (leb (stockAt l t) (broughtAt l t)) (eqb (releasedAt l t + stockAt l t) (broughtAt l t)) (every-at (withinBy defaults l) 8 t h (q .1)) in
           let risen : getD defaults t 0 ≤ mostCarbonOf (t + 1) = rw (default-is t) at (carbon-most (t + 1) 0 zero-le) in

@@ -82,7 +82,7 @@ module _ (d : ℕ → Fraction) (o : Offering) (bytes : List ℕ) (room : ℕ) (
       let back : count - 1 ≡ length (recordsIn o) = rw (all-counted o) (omega arith) in
       let n : o .ledger .n + 1 ≡ count = rw (n-counts o r, add-one) in
       rw (back, getD-at (recordsIn o) bytes [] [] (length (recordsIn o)) refl, n)
-      (chain (factorsOf bytes) (ranged (factorsOf bytes) (step.accepted (o .ledger) bytes room e .ranges))
+      (chain (factorsOf bytes) (ranged (factorsOf bytes) (step.accepted-meets (o .ledger) bytes room e .ranges))
       (total (exactReleaseAt d records count) 8) (sumOf (release (o .ledger) bytes) 8) (sumOf margin 8)
       (beside-sums (exactReleaseAt d records count) (release (o .ledger) bytes) margin 8 beside-exact))
 

@@ -65,7 +65,7 @@ pub kind-and-climate : (o : Offering) → OneByOne o → 1 ≤ length (o .accept
     → (isKind (o .ledger .kind) ≡ true) × (isClimate (o .ledger .climate) ≡ true)
 unfolding after
 kind-and-climate _ none-yet h = absurd (omega arith)
-kind-and-climate _ (one-more o bytes room r e) h = let a = step.accepted (o .ledger) bytes room e in (a .kind, a .climate)
+kind-and-climate _ (one-more o bytes room r e) h = let a = step.accepted-meets (o .ledger) bytes room e in (a .kind, a .climate)
 
 -- Deposits are parted into releases and stock at each record, and so all in all.
 pub conserved : (t : ℕ) → t < 8 → (o : Offering) → OneByOne o → Conserved o t

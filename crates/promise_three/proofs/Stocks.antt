@@ -92,7 +92,7 @@ pub alike-before : (o : Offering) (bytes : List ℕ) (room : ℕ) → OneByOne o
 unfolding after
 alike-before o bytes room r e h =
     let some : 0 < o .ledger .n = rw (n-counts o r) h in
-    step.accepted (o .ledger) bytes room e .same (λ z. omega arith)
+    step.accepted-meets (o .ledger) bytes room e .same (λ z. omega arith)
 
 pub near : (L : Ledger) (t : ℕ) (d : Fraction) → t < 8 → StandsFor (entryAt (L .kind) (L .climate) t) d → (o : Offering)
     → OneByOne o → Alike L o → NearAt d o t

@@ -37,7 +37,7 @@ module _ (u : Uncertainties) where
   pub factor-where : (byPercentages u .refusal ≡ 0) ↔ Entered u
   factor-where = (
     λ z. Laws.each-at-most u (Answer.when-entered u z),
-    λ h. rw (sym (Answer.worked-out u (Answer.all-entered u (both-when (h .most-a) (h .most-b)) (h .most-c) (h .most-d) (h .most-e) (h .most-g)) refl)),
+    λ h. rw (sym (Answer.factor-found u (Answer.all-entered u (both-when (h .most-a) (h .most-b)) (h .most-c) (h .most-d) (h .most-e) (h .most-g)) refl)),
   )
 
   pub factor-18 : (Entered u → ⊥) → byPercentages u ≡ record { refusal = 18; factor = 0 }
@@ -48,7 +48,7 @@ module _ (u : Uncertainties) where
       by-test false t = sym (Answer.percentage-over u t)
 
   factor-is : byPercentages u .refusal ≡ 0 → byPercentages u .factor ≡ factorFor (squaresOf u)
-  factor-is z = rw (sym (Answer.worked-out u (Answer.when-entered u z) refl))
+  factor-is z = rw (sym (Answer.factor-found u (Answer.when-entered u z) refl))
 
   pub factor-well : byPercentages u .refusal ≡ 0 → Determined u 28 (byPercentages u .factor) 100
   unfolding factorFor allows
@@ -176,7 +176,7 @@ module _ (u : Uncertainties) where
     chosen-is = sym (Answer.as-chosen u (both-when u (h .a-most) (h .b-most)) all-coded)
 
     chosen-taken : byPercentages (chosenBy u) .refusal ≡ 0
-    chosen-taken = rw (sym (Answer.worked-out (chosenBy u) (Answer.chosen-entered u (both-when u (h .a-most) (h .b-most))) refl))
+    chosen-taken = rw (sym (Answer.factor-found (chosenBy u) (Answer.chosen-entered u (both-when u (h .a-most) (h .b-most))) refl))
 
   pub codes-where : (byCodes u .refusal ≡ 0) ↔ Coded u
   codes-where = (coded-when, λ h. rw (chosen-is h) (chosen-taken h))

@@ -4,7 +4,9 @@ mod lengths;
 
 pub use lengths::left_over;
 pub use lengths::reach;
+ghost use mathlib.Core.Bool.{cond};
 ghost use mathlib.Core.Path.{_≡_};
+ghost use lib.Dec.{eqb};
 ghost use Rattle.numbers.specs.Eight.{everyOf};
 ghost use Rattle.numbers.specs.Fault.{firstOf, ahead};
 ghost use Rattle.record.specs.Ranges.{light};
@@ -72,19 +74,10 @@ fn are_light(bytes: &[u8]) -> bool
     all
 }
 
-// Answers the refusal of a record, 0 if none: the first fault of all.
-pub fn first(
-    n: u16,
-    kind: u8,
-    climate: u8,
-    year: YearFactors,
-    good: bool,
-    bytes: &[u8],
-    room: usize,
-) -> u8
-    ensures { λ r. ⌜ r ≡ firstOf (faultsOf good n kind climate year (now (bytes .entry)) room) ⌝ }
+// Answers the refusal of a record, 0 if none: the one that everything before the masses decides, and else 9 for a mass over the limit.
+pub fn with_masses(early: u8, bytes: &[u8]) -> u8
+    ensures { λ r. ⌜ r ≡ cond (eqb early 0) (cond (everyOf (light (now (bytes .entry))) 8) 0 9) early ⌝ }
 {
-    let early = early(n, kind, climate, year, good, bytes, room);
     if early != 0 {
         return early;
     }

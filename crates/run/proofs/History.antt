@@ -12,10 +12,10 @@ use Rattle.carbon.specs.Carbon.{mostRecords}
 use Rattle.ledger.specs.Step.{after}
 use Rattle.ledger.specs.Refusal.{refusalOf}
 use Rattle.ledger.specs.Take.{acceptedOf, takeOf, outputRecord}
-use Rattle.run.specs.History.{Turn, turnOf, turns, ledgerAfter, leading, ending, outputs, cut, recordsOf, inTurn, Run, runOf}
+use Rattle.run.specs.History.{Turn, turnOf, turns, ledgerAfter, leading, ending, outputs, cut, recordsBegun, recordsOf, inTurn, Run, runOf}
 use Rattle.ledger.specs.declared.book.Ledger.{Ledger}
 use Rattle.ledger.proofs.Take.{taken, take-refusal, output-length}
-use Rattle.ledger.proofs.Accepted.{accepted, room-alike}
+use Rattle.ledger.proofs.Accepted.{accepted-meets, room-alike}
 
 -- A file of no bytes has no records, and any other has a first record and the records of the rest.
 pub no-records : (file : List ℕ) → length file ≡ 0 → recordsOf file ≡ []
@@ -25,7 +25,7 @@ no-records file h = rw h
 pub first-record : (file : List ℕ) → 0 < length file → recordsOf file ≡ take recordBytes file ∷ recordsOf (drop recordBytes file)
 unfolding recordsOf cut
 first-record file h =
-    let e : (length file + 47) / 48 ≡ suc ((length (drop 48 file) + 47) / 48) = simp length-drop (omega arith) in
+    let e : recordsBegun (length file) ≡ suc (recordsBegun (length (drop recordBytes file))) = simp length-drop (omega arith) in
     ap (λ (k : ℕ). cut k file) e
 
 -- The bytes of one record are one record.
@@ -40,9 +40,9 @@ unfolding cut
 cut-length zero file = refl
 cut-length (suc k) file = ap suc (cut-length k (drop recordBytes file))
 
-pub records-count : (file : List ℕ) → length (recordsOf file) ≡ (length file + 47) / recordBytes
+pub records-count : (file : List ℕ) → length (recordsOf file) ≡ recordsBegun (length file)
 unfolding recordsOf
-records-count file = cut-length ((length file + 47) / recordBytes) file
+records-count file = cut-length (recordsBegun (length file)) file
 
 -- Whole records in front of a file are in front of its records.
 pub records-join : (k : ℕ) (file rest : List ℕ) → length file ≡ recordBytes * k
@@ -149,7 +149,7 @@ run-counts l [] room h = rw (run-ends l room) (record { n = omega arith; few = h
 run-counts l (bytes ∷ xs) room h =
     elim (ℕ-discrete (refusalOf l bytes room) 0) [
       | yes e ↦
-          let more = accepted l bytes room e .more in
+          let more = accepted-meets l bytes room e .more in
           let on = run-counts (acceptedOf l bytes .ledger) xs (room - recordBytes) (omega arith) in
           rw (run-goes-on l bytes xs room e)
           (record { n = omega (arith, on .n); few = on .few; all = λ q. ap suc (on .all q); fewer = λ q. omega (arith, on .fewer q) })

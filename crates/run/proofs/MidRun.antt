@@ -22,7 +22,7 @@ use Rattle.refusal.specs.Reach.{reachOf, leftOver}
 use Rattle.run.specs.History.{Turn, outputs, recordsOf, runOf, outcomeOf, outOf}
 use Rattle.ledger.specs.declared.book.Ledger.{Ledger}
 use Rattle.refusal.proofs.Laws.{earlyOf, first-early, first-late}
-use Rattle.ledger.proofs.Accepted.{accepted, was-sound, has-room, accepted-sound, room-alike}
+use Rattle.ledger.proofs.Accepted.{accepted-meets, was-sound, has-room, accepted-sound, room-alike}
 use Rattle.ledger.proofs.Take.{output-length}
 use Rattle.run.proofs.History.{no-records, first-record, stopped, onFrom, acceptedTurn, run-goes-on, run-stops, run-ends, on-from, outputs-length, outputs-join}
 
@@ -81,7 +81,7 @@ run-starts l file out entries good flag fit =
 next-fit : (l : Ledger) (bytes next entries : List ℕ) → refusalOf l bytes 48 ≡ 0 → Fit entries l bytes → Fit entries (acceptedOf l bytes .ledger) next
 unfolding acceptedOf after
 next-fit l bytes next entries ok fit ok′ =
-    let same = accepted (after l bytes) next 48 ok′ .same (λ z. omega arith) in
+    let same = accepted-meets (after l bytes) next 48 ok′ .same (λ z. omega arith) in
     fit ok ∙ rw (same .0, same .1)
 
 -- 48 bytes of the output, lent to an accepted record: how many they are, and what comes back
@@ -209,7 +209,7 @@ module _ {l₀ : Ledger} {file out₀ entries : List ℕ} {good : Bool} {out : L
       let o : List ℕ = outputRecord (acceptedOf l here) in
       let w : List ℕ = take at out in
       let turn = acceptedTurn l here in
-      let a = accepted l here room ok in
+      let a = accepted-meets l here room ok in
       let enough : 48 ≤ room = has-room l here room ok in
       let size : length o ≡ 48 = output-length (acceptedOf l here) in
       let n : length w ≡ at = length-take-le at out (h .in-out) in

@@ -1,14 +1,15 @@
 -- The run of what is left of a file is the run of its first stretch and, where that refuses nothing, the run of the rest.
-use mathlib.Core.Path.{_≡_, refl, sym, ap, subst, _∙_}
-use mathlib.Core.Bool.{Bool, true, false, cond, _&&_}
+use mathlib.Core.Path.{_≡_, refl, sym, ap, _∙_}
+use mathlib.Core.Bool.{true, false, cond, _&&_}
 use mathlib.Core.List.{List, [], _++_, append-nil}
 use Prim.Native.Nat.{ℕ, _+_, _-_, _*_, _≤_, _<_}
 use native.Mathlib.Decide.{decLe, ℕ-discrete}
 use native.Mathlib.Omega.{arith}
 use borrow.Author.Tests.{eqb-true, ltb-true, ltb-false, eq-eqb, ne-eqb}
-use lib.Dec.{T, eqb, ltb}
+use lib.Dec.{eqb, ltb}
 use lib.ListN.{length, take, drop, length-drop, length-append, length-take, take-append-drop}
 use lib.Seq.{length-take-le, take-all}
+use Rattle.numbers.proofs.Eight.{both-true}
 use Rattle.record.specs.Fields.{recordBytes}
 use Rattle.carbon.specs.Carbon.{mostRecords}
 use Rattle.ledger.specs.Step.{fresh}
@@ -20,11 +21,9 @@ use Rattle.run.proofs.History.{no-records, records-join, records-count,
 
 -- What the test at the head of a loop over stretches says: nothing is refused, and bytes are left.
 pub goes : (refusal at size : ℕ) → (eqb refusal 0 && ltb at size) ≡ true → (refusal ≡ 0) × (at < size)
-goes refusal at size e = (eqb-true refusal 0 (both (eqb refusal 0) (ltb at size) e .0), ltb-true at size (both (eqb refusal 0) (ltb at size) e .1))
-  where
-    both : (p q : Bool) → (p && q) ≡ true → (p ≡ true) × (q ≡ true)
-    both true q e = (refl, e)
-    both false q e = absurd (subst T (sym e) tt)
+goes refusal at size e =
+    let both = both-true (eqb refusal 0) (ltb at size) e in
+    (eqb-true refusal 0 (both .0), ltb-true at size (both .1))
 
 pub no-more : (refusal at size : ℕ) → (eqb refusal 0 && ltb at size) ≡ false → refusal ≡ 0 → size ≤ at
 no-more refusal at size e z = ltb-false at size (simp (eq-eqb refusal 0 z) at e)

@@ -61,9 +61,13 @@ unfoldable pub cut : ℕ → List ℕ → List (List ℕ)
 cut zero file = []
 cut (suc k) file = take recordBytes file ∷ cut k (drop recordBytes file)
 
+-- How many records so many bytes begin.
+abbrev pub recordsBegun : (bytes : ℕ) → ℕ
+recordsBegun bytes = (bytes + (recordBytes - 1)) / recordBytes
+
 -- A file is records one after another; bytes left over that make no record stand as a last one, which the step refuses with 1.
 unfoldable pub recordsOf : List ℕ → List (List ℕ)
-recordsOf file = cut ((length file + 47) / recordBytes) file
+recordsOf file = cut (recordsBegun (length file)) file
 
 -- Records as offers: each has the room that those before it leave.
 unfoldable pub inTurn : List (List ℕ) → (room : ℕ) → List Offer

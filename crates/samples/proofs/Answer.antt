@@ -47,9 +47,9 @@ module _ (kind total : ℕ) (samples : List ℕ) where
     wrong-number e = simp (le-ltb massLimit total h, e)
 
     module _ (right : Right kind samples true) where
-      pub not-whole : everyOf (addsUp samples) (numberOf samples) ≡ false → unsorted 16 ≡ sortedOf kind total samples
+      pub sample-not-whole : everyOf (addsUp samples) (numberOf samples) ≡ false → unsorted 16 ≡ sortedOf kind total samples
       unfolding sortedOf sampleFaults
-      not-whole e = simp (le-ltb massLimit total h, right, e)
+      sample-not-whole e = simp (le-ltb massLimit total h, right, e)
 
       pub taken : everyOf (addsUp samples) (numberOf samples) ≡ true → (masses : List ℕ) → masses ≡ eight (λ t. massOfType samples total (t + 1))
           → sortedInto masses ≡ sortedOf kind total samples
@@ -71,9 +71,9 @@ module _ (total : ℕ) (samples fractions : List ℕ) where
 
 -- What an answer without refusal says.
 module _ (kind total : ℕ) (samples : List ℕ) where
-  pub refusal-is : sortedOf kind total samples .refusal ≡ firstOf (sampleFaults samples kind total)
+  pub sorted-refusal : sortedOf kind total samples .refusal ≡ firstOf (sampleFaults samples kind total)
   unfolding sortedOf
-  refusal-is = either (firstOf (sampleFaults samples kind total))
+  sorted-refusal = either (firstOf (sampleFaults samples kind total))
     where
       either : (refusal : ℕ) → cond (eqb refusal 0) (sortedInto (eight (λ t. massOfType samples total (t + 1)))) (unsorted refusal) .refusal ≡ refusal
       either zero = refl
@@ -87,7 +87,7 @@ module _ (kind total : ℕ) (samples : List ℕ) where
   pub when-taken : sortedOf kind total samples .refusal ≡ 0 → Taken
   unfolding sampleFaults
   when-taken e =
-      let none = sym refusal-is ∙ e in
+      let none = sym sorted-refusal ∙ e in
       record {
         not-large = ltb-false massLimit total (clear 14 (sampleFaults samples kind total) refl none);
         right = not-false _ (clear 15 (sampleFaults samples kind total) refl none);
@@ -97,5 +97,5 @@ module _ (kind total : ℕ) (samples : List ℕ) where
   pub nothing-sorted : (sortedOf kind total samples .refusal ≡ 0 → ⊥) → sortedOf kind total samples .masses ≡ eight (λ t. 0)
   unfolding sortedOf
   nothing-sorted bad =
-      let there : firstOf (sampleFaults samples kind total) ≡ 0 → ⊥ = λ e. bad (refusal-is ∙ e) in
+      let there : firstOf (sampleFaults samples kind total) ≡ 0 → ⊥ = λ e. bad (sorted-refusal ∙ e) in
       rw (ne-eqb (firstOf (sampleFaults samples kind total)) 0 there)

@@ -17,10 +17,10 @@ module _ (u : Uncertainties) where
   unfolding byPercentages percentageFaults
   percentage-over t = simp t
 
-  pub worked-out : arePercentages u ≡ true → {factor : ℕ} → factor ≡ factorFor (squaresOf u)
+  pub factor-found : arePercentages u ≡ true → {factor : ℕ} → factor ≡ factorFor (squaresOf u)
       → _≡_ {A = ModelFactor} (record { refusal = 0; factor = factor }) (byPercentages u)
   unfolding byPercentages percentageFaults
-  worked-out t is = simp (t, is)
+  factor-found t is = simp (t, is)
 
   pub entered-over : bothEntered u ≡ false → noFactor 18 ≡ byCodes u
   unfolding byCodes codeFaults

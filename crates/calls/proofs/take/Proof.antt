@@ -1,13 +1,14 @@
 -- The step on the part that is lent decides; the answer and the image follow it.
 use mathlib.Core.Path.{_≡_, refl, sym, ap, _∙_}
-use mathlib.Core.List.{_++_}
+use mathlib.Core.List.{List, _++_}
+use Prim.Native.Nat.{ℕ}
 use native.Mathlib.Omega.{arith}
 use borrow.Author.Needs.{needs}
 use denote.Ref.{now}
 use lib.ListN.{length, drop}
 use Rattle.ledger.specs.declared.answer.Answer.{Answer}
 use Rattle.calls.specs.Calls.{answered, takeHere, takeOut, takeAnswer}
-use Rattle.calls.proofs.Takes.{room-most, part-length, step-is, out-is, image-next, image-stays}
+use Rattle.calls.proofs.Takes.{room-most, part-length, step-is, output-left, image-next, image-stays}
 use Rattle.calls.proofs.take.Statement.{statement}
 use Rattle.calls.proofs.take.Tie as tie
 
@@ -27,39 +28,43 @@ written : (c : tie.After-take-one) → let s = start c .args in
 written c =
     let s = start c .args in
     let room = c .before .before .before .before .room in
-    out-is (now (s .image)) (s .«record» .now) (now (s .out)) (now (s .answer)) (room .result) (room .ensures) (rw (c .before .before .read .ensures) at (c .take-one .ensures .1))
+    output-left (now (s .image)) (s .«record» .now) (now (s .out)) (now (s .answer)) (room .result) (room .ensures) (rw (c .before .before .read .ensures) at (c .take-one .ensures .1))
 
--- the answer that is left
-said : (c : tie.After-write-answer) → let s = start (c .before .before .before .before) .args in
-    c .write-answer .last .0 ≡ takeAnswer (now (s .image)) (s .«record» .now) (now (s .out)) (now (s .answer))
+abbrev after-refusal : tie.After-write-answer → tie.After-take-one
+after-refusal c = c .before .before .before .before .before .before
+
+abbrev after-acceptance : tie.After-write-answer2 → tie.After-take-one
+after-acceptance c = c .before .before .before .before .before .before .before .before .before .before
+
+-- the answer that is written is the step's
+said : (c : tie.After-take-one) {left : List ℕ} → let s = start c .args in
+    left ≡ answered (c .take-one .result) (now (s .answer)) → left ≡ takeAnswer (now (s .image)) (s .«record» .now) (now (s .out)) (now (s .answer))
 unfolding takeAnswer
-said c =
-    let step = c .before .before .before .before in
-    c .write-answer .ensures ∙ ap (λ (a : Answer). answered a (now (start step .args .answer))) (done step)
+said c e = e ∙ ap (λ (a : Answer). answered a (now (start c .args .answer))) (done c)
 
 returns : tie.Need-returns
 returns c =
-    let answer = c .before .before .before .before .before .before .before .before in
-    let step = answer .before .before .before .before in
-    let s = start step .args in
-    let room = step .before .before .before .before .room in
-    let none = sym (ap (λ (a : Answer). a .refusal) (done step)) ∙ c .before .before .before .before .if1 .taken in (
+    let refused = c .before .before in
+    let step = after-refusal refused in
+    let s = start step .args in (
       ap (λ (a : Answer). a .refusal) (done step),
       (
-        c .before .before .write .ensures ∙ rw (done step) (image-next (now (s .image)) (s .«record» .now) (now (s .out)) (now (s .answer)) (room .result) (room .ensures) none),
-        (written step, said answer),
+        sym (image-stays (now (s .image)) (s .«record» .now) (now (s .out)) (now (s .answer)) (λ z. refused .before .before .if1 .taken (ap (λ (a : Answer). a .refusal) (done step) ∙ z))),
+        (written step, said step (refused .write-answer .ensures)),
       ),
     )
 
 returns-2 : tie.Need-returns-2
 returns-2 c =
-    let answer = c .before .before .before .before in
-    let step = answer .before .before .before .before in
-    let s = start step .args in (
-      ap (λ (a : Answer). a .refusal) (done step),
+    let kept = c .before .before in
+    let step = after-acceptance kept in
+    let s = start step .args in
+    let room = step .before .before .before .before .room in
+    let none = sym (ap (λ (a : Answer). a .refusal) (done step)) ∙ kept .before .before .before .before .before .before .if1 .left in (
+      sym none,
       (
-        sym (image-stays (now (s .image)) (s .«record» .now) (now (s .out)) (now (s .answer)) (λ z. c .if1 .left (ap (λ (a : Answer). a .refusal) (done step) ∙ z))),
-        (written step, said answer),
+        kept .before .before .before .before .write .ensures ∙ rw (done step) (image-next (now (s .image)) (s .«record» .now) (now (s .out)) (now (s .answer)) (room .result) (room .ensures) none),
+        (written step, said step (kept .write-answer2 .ensures)),
       ),
     )
 
@@ -69,6 +74,5 @@ take-spec =
     (tie.spec (λ c κs. tt) (λ c κs. tt)
     (λ c. let s = c .before .before .before .before .before .before .before .args in omega (arith, c .before .before .room .ensures, room-most (length (now (s .out))) (length (now (s .answer)))))
     (λ c. let s = c .before .before .before .before .before .before .before .before .args in let room = c .before .before .before .room in sym (part-length (now (s .image)) (s .«record» .now) (now (s .out)) (now (s .answer)) (room .result) (room .ensures)))
-    (λ c κs. tt) (λ c κs. tt) (λ c κs. tt) (λ c. c .before .before .write .kept .0) (λ c. search needs)
-    (λ c. c .before .before .before .before .before .before .before .before .write-answer .kept .0) returns (λ c. refl) (λ c. search needs)
-    (λ c. c .before .before .before .before .write-answer .kept .0) returns-2)
+    (λ c κs. tt) (λ c κs. tt) (λ c. search needs) (λ c. search needs) (λ c. search needs) returns (λ c κs. tt) (λ c κs. tt)
+    (λ c. search needs) (λ c. search needs) (λ c. search needs) returns-2)

@@ -11,7 +11,7 @@ use Rattle.output.proofs.Laws.{Says}
 use Rattle.ledger.specs.Refusal.{refusalOf}
 use Rattle.ledger.specs.Take.{acceptedOf, outputRecord, outputFields}
 use Rattle.run.specs.declared.Outcome.{Outcome}
-use Rattle.ledger.proofs.Accepted.{Accepted, accepted, has-room}
+use Rattle.ledger.proofs.Accepted.{Accepted, accepted-meets, has-room}
 use Rattle.ledger.proofs.Step.{released-after, released-between}
 use Rattle.ledger.proofs.Take.{taken, refused-by, accepted-writes}
 use Rattle.ledger.proofs.Fits.{output-says}
@@ -29,7 +29,7 @@ none : (c : tie.Else2) → let a = c .before .before .before .before .before .be
 none c = sym (found (c .before .before .before .before)) ∙ c .if2 .left
 
 ok : (c : tie.Else2) → let a = c .before .before .before .before .before .before .before .before .before .args in Accepted (a .ledger) (a .bytes .now)
-ok c = let a = c .before .before .before .before .before .before .before .before .before .args in accepted (a .ledger) (a .bytes .now) (length (now (a .out))) (none c)
+ok c = let a = c .before .before .before .before .before .before .before .before .before .args in accepted-meets (a .ledger) (a .bytes .now) (length (now (a .out))) (none c)
 
 -- what the run leaves in the output
 output-is : (c : tie.Else2) → let a = c .before .before .before .before .before .before .before .before .before .args in c .before .before .before .before .run .last .1 .1 .0 ≡ outputRecord (acceptedOf (a .ledger) (a .bytes .now)) ++ drop recordBytes (now (a .out))

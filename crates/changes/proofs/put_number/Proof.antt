@@ -4,7 +4,7 @@ use native.Mathlib.Omega.{arith}
 use borrow.Author.Needs.{needs}
 use lib.ListN.{length, take}
 use Rattle.line.specs.Line.{decimalOf}
-use Rattle.line.proofs.Decimal.{few}
+use Rattle.line.proofs.Decimal.{few-digits}
 use Rattle.changes.proofs.Text.{plain-decimal}
 use Rattle.changes.proofs.put_number.Statement.{statement}
 use Rattle.changes.proofs.put_number.Tie as tie
@@ -15,13 +15,13 @@ spelt c = c .decimal .ensures .1 .1 ∙ plain-decimal _ _ (c .decimal .ensures .
 put-requires : tie.Need-put-requires
 put-requires c κs =
     let start = c .before .before .before .before .before in
-    omega (arith, ap length (spelt (c .before .before)), few (start .args .n) 19 (omega arith), start .pre)
+    omega (arith, ap length (spelt (c .before .before)), few-digits (start .args .n) 19 (omega arith), start .pre)
 
 returns : tie.Need-returns
 returns c =
     let start = c .before .before .before .before .before .before .before .before in (
       rw (spelt (c .before .before .before .before .before)) at (c .before .before .put .ensures),
-      omega (arith, ap length (spelt (c .before .before .before .before .before)), few (start .args .n) 19 (omega arith)),
+      omega (arith, ap length (spelt (c .before .before .before .before .before)), few-digits (start .args .n) 19 (omega arith)),
     )
 
 pub put-number-spec : {M : Type 1} → statement M

@@ -5,14 +5,14 @@ use native.Mathlib.Omega.{arith}
 use lib.ListN.{length-append}
 use borrow.Author.Needs.{needs}
 use Rattle.line.specs.Line.{decimalOf, lineText, acceptedText}
-use Rattle.line.proofs.Decimal.{few}
+use Rattle.line.proofs.Decimal.{few-digits}
 use Rattle.line.proofs.Writing.{write-on, written-line}
 use Rattle.line.proofs.accepted.Statement.{statement}
 use Rattle.line.proofs.accepted.Tie as tie
 
 -- a period of 16 bits is below 10 ^ 5
 short : (c : tie.After-number) → c .number .result ≤ 6
-short c = let p = c .before .before .args .period in omega (arith, few p 4 (omega arith), length-append (decimalOf p) (32 ∷ []))
+short c = let p = c .before .before .args .period in omega (arith, few-digits p 4 (omega arith), length-append (decimalOf p) (32 ∷ []))
 
 returns : tie.Need-returns
 unfolding acceptedText lineText

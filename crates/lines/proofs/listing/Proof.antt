@@ -8,7 +8,7 @@ use lib.ListN.{length}
 use Rattle.run.proofs.History.{records-count}
 use Rattle.line.specs.Line.{lineBytes}
 use Rattle.lines.specs.Listing.{roomFor}
-use Rattle.lines.proofs.MidListing.{no-room, whole-text}
+use Rattle.lines.proofs.MidListing.{text-too-short, whole-text}
 use Rattle.lines.proofs.listing.Statement.{statement}
 use Rattle.lines.proofs.listing.Tie as tie
 
@@ -25,6 +25,6 @@ listing-spec =
     tie.close
     (tie.spec (λ c κs. search needs)
     (λ c. omega (arith, c .most-lines .ensures .1))
-    (λ c. no-room (c .before .before .before .before .args .file .now) (now (c .before .before .before .before .args .text)) (rw (← room-is (c .before)) (c .if1 .taken)))
+    (λ c. text-too-short (c .before .before .before .before .args .file .now) (now (c .before .before .before .before .args .text)) (rw (← room-is (c .before)) (c .if1 .taken)))
     (λ c κs. enough (c .before)) (λ c. search needs)
     (λ c. whole-text (c .before .before .before .before .before .before .before .before .args .file .now) (now (c .before .before .before .before .before .before .before .before .args .text)) (enough (c .before .before .before .before)) (c .before .before .write-listing .ensures)))

@@ -4,7 +4,7 @@ use mathlib.Core.Bool.{true}
 use borrow.Author.Needs.{needs}
 use borrow.Author.Tests.{not-true, not-false}
 use Rattle.order.specs.Order.{isOrder}
-use Rattle.order.proofs.Answer.{places-near, rooms, no-order, not-whole, no-room, accepted}
+use Rattle.order.proofs.Answer.{places-near, rooms, no-order, not-whole, no-room, file-rewritten}
 use Rattle.order.proofs.repair.Statement.{statement}
 use Rattle.order.proofs.repair.Tie as tie
 
@@ -24,7 +24,7 @@ returns-4 c =
     let a = d .before .before .before .before .before .before .before .before .args in
     let places = c .before .before .before .before .before .before .before .places-of in
     let wrote = c .before .before .before .before .rewrite in
-    accepted (a .order .now) (a .file .now) (a .out .now) (a .report .now) (ok (d .before .before)) (d .before .if2 .left) (d .if3 .left)
+    file-rewritten (a .order .now) (a .file .now) (a .out .now) (a .report .now) (ok (d .before .before)) (d .before .if2 .left) (d .if3 .left)
     (places .result) (places .ensures) (wrote .ensures .0) (wrote .ensures .1 .0) (wrote .ensures .1 .1)
 
 returns : tie.Need-returns

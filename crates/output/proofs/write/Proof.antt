@@ -5,7 +5,7 @@ use borrow.Author.Tests.{le-leb, lt-leb}
 use denote.Ref.{now}
 use lib.ListN.{length}
 use Rattle.numbers.proofs.Bytes.{front-written}
-use Rattle.output.specs.Output.{headOf, fiveOf, outputOf, written}
+use Rattle.output.specs.Output.{outputHead, fiveOf, outputOf, written}
 use Rattle.output.proofs.write.Statement.{statement}
 use Rattle.output.proofs.write.Tie as tie
 
@@ -17,7 +17,7 @@ returns-2 c =
     let o = s .says in
     let room : 48 ≤ length (now (s .out)) = head .before .before .if1 .left in
     simp (le-leb 48 (length (now (s .out))) room)
-    (front-written (headOf (o .period) (o .kind) (o .climate)) (fiveOf (o .x0) (o .figure) (o .bound) (o .stock) (o .brought)) (now (s .out))
+    (front-written (outputHead (o .period) (o .kind) (o .climate)) (fiveOf (o .x0) (o .figure) (o .bound) (o .stock) (o .brought)) (now (s .out))
     (head .write-head .ensures) (c .before .before .write-five .ensures) room)
 
 pub write-spec : {M : Type 1} → statement M

@@ -4,14 +4,14 @@ use borrow.Author.Needs.{needs}
 use denote.Ref.{now}
 use lib.ListN.{take}
 use lib.Seq.{getD-take}
-use Rattle.ledger.proofs.Accepted.{accepted}
+use Rattle.ledger.proofs.Accepted.{accepted-meets}
 use Rattle.run.proofs.run_entries.Statement.{statement}
 use Rattle.run.proofs.run_entries.Tie as tie
 
 returns : tie.Need-returns
 returns c = λ ok.
     let s = c .before .before .before .before .args in
-    let same = accepted (s .ledger) (take 48 (now (s .records))) 48 ok .same (λ z. omega arith) in
+    let same = accepted-meets (s .ledger) (take 48 (now (s .records))) 48 ok .same (λ z. omega arith) in
     rw (same .0, same .1) (c .entries .ensures)
 
 returns-2 : tie.Need-returns-2

@@ -12,7 +12,7 @@ use lib.ListN.{getD}
 use Rattle.numbers.specs.Eight.{eight, sumOf, everyOf}
 use Rattle.waste.specs.Waste.{massLimit}
 use Rattle.samples.specs.Samples.{wholeSample, mostSamples, addsUp, numberOf}
-use Rattle.samples.proofs.Answer.{Right, number-within, too-large, wrong-number, not-whole, taken, parted}
+use Rattle.samples.proofs.Answer.{Right, number-within, too-large, wrong-number, sample-not-whole, taken, parted}
 use Rattle.samples.proofs.Laws.{ofPlace, by-type, all-types}
 use Rattle.samples.proofs.masses.Statement.{statement}
 use Rattle.samples.proofs.masses.Tie as tie
@@ -62,7 +62,7 @@ masses-spec =
     (sym (c .before .before .is-right-number .ensures) ∙ not-true _ (c .before .if2 .taken)))
     (λ c κs. (within c .1, omega arith)) (λ c κs. tt)
     (λ c. let d = c .before .before .before .before in
-    c .refuse3 .ensures ∙ not-whole _ _ _ (not-large d) (right d) (sym (c .before .before .before .add-samples .ensures .0) ∙ not-true _ (c .before .if3 .taken)))
+    c .refuse3 .ensures ∙ sample-not-whole _ _ _ (not-large d) (right d) (sym (c .before .before .before .add-samples .ensures .0) ∙ not-true _ (c .before .if3 .taken)))
     (λ c. search needs) (λ c. omega (arith, within (counted (c .before)) .1))
     (λ c κs. let d = c .before in
     (not-large (counted d), omega (arith, within (counted d) .0), omega (arith, within (counted d) .1), whole-made d))

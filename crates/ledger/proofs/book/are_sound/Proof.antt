@@ -11,4 +11,4 @@ unfolding withinAt
 are-sound-spec =
     tie.close
     (tie.spec (λ c κs. search needs) (λ c κs. search needs) (λ c κs. search needs)
-    (λ c. rw (c .are-within .ensures, c .before .is-coded .ensures, c .before .before .is-sound .ensures) (sym (sound-tests _))))
+    (λ c. rw (c .are-within .ensures, c .before .has-codes .ensures, c .before .before .is-sound .ensures) (sym (sound-tests _))))

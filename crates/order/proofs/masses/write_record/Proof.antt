@@ -5,7 +5,7 @@ use native.Mathlib.Omega.{arith}
 use lib.Dec.{lit≤}
 use lib.Seq.{length-take-le}
 use Rattle.numbers.specs.Lists.{joined}
-use Rattle.order.specs.Repair.{headOf, recordAt, rewritten}
+use Rattle.order.specs.Repair.{recordHead, recordFrom, rewritten}
 use Rattle.order.proofs.Anew.{moved, two-written, head-written, part-room, part-fits, second-room}
 use Rattle.order.proofs.Records.{whole-at}
 use Rattle.order.proofs.masses.write_record.Statement.{statement}
@@ -40,8 +40,8 @@ returns c =
     (first second .before .read-u64 .ensures) (second .before .read-u642 .ensures) (first second .write-u64 .ensures) (second .write-u642 .ensures)
     in (
       masses .write-masses .ensures .0,
-      two-written (headOf (recordAt file at)) (joined (moved file at (s .args .places)) 8) (s .args .out .now) at 16
-          (length-take-le 16 (recordAt file at) (omega (arith, whole-at file at (s .pre .0)))) refl refl head (masses .write-masses .ensures .1),
+      two-written (recordHead (recordFrom file at)) (joined (moved file at (s .args .places)) 8) (s .args .out .now) at 16
+          (length-take-le 16 (recordFrom file at) (omega (arith, whole-at file at (s .pre .0)))) refl refl head (masses .write-masses .ensures .1),
     )
 
 -- before the second eight bytes

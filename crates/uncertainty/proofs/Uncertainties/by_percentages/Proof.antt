@@ -4,7 +4,7 @@ use mathlib.Core.Bool.{true}
 use borrow.Author.Tests.{not-true, not-false}
 use Rattle.uncertainty.specs.Uncertainty.{arePercentages}
 use Rattle.uncertainty.proofs.Laws.{squares-most}
-use Rattle.uncertainty.proofs.Answer.{percentage-over, worked-out}
+use Rattle.uncertainty.proofs.Answer.{percentage-over, factor-found}
 use Rattle.uncertainty.proofs.Uncertainties.by_percentages.Statement.{statement}
 use Rattle.uncertainty.proofs.Uncertainties.by_percentages.Tie as tie
 
@@ -17,4 +17,4 @@ by-percentages-spec =
     (tie.spec (λ c κs. tt) (λ c κs. tt)
     (λ c. c .refuse .ensures ∙ percentage-over _ (sym (c .before .before .are-percentages .ensures) ∙ not-true _ (c .before .if1 .taken)))
     (λ c κs. tt) (λ c κs. rw (c .squares .ensures) (squares-most _ (passed (c .before))))
-    (λ c. worked-out _ (passed (c .before .before)) (c .greatest-factor .ensures ∙ rw (c .before .squares .ensures))))
+    (λ c. factor-found _ (passed (c .before .before)) (c .greatest-factor .ensures ∙ rw (c .before .squares .ensures))))

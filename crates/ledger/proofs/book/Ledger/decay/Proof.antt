@@ -11,7 +11,7 @@ use Rattle.record.specs.Fields.{kindOf, climateOf, mostDeposit}
 use Rattle.record.proofs.Laws.{deposit-most}
 use Rattle.carbon.specs.Carbon.{entryAt}
 use Rattle.ledger.proofs.Sound.{WithinCeiling}
-use Rattle.ledger.proofs.Accepted.{Accepted, accepted}
+use Rattle.ledger.proofs.Accepted.{Accepted, accepted-meets}
 use Rattle.carbon.proofs.Laws.{entry-small}
 use Rattle.ledger.proofs.Settle.{decayed-is}
 use Rattle.ledger.proofs.book.Ledger.decay.Statement.{statement}
@@ -22,7 +22,7 @@ entry-here : (bytes entries : List ℕ) (t : ℕ) → t < 8 → entries ≡ eigh
 entry-here bytes entries t h e = ap (λ (xs : List ℕ). getD xs t 0) e ∙ eight-at (entryAt (kindOf bytes) (climateOf bytes)) t h
 
 taken : (s : tie.Start) → Accepted (s .args .t1) (s .args .bytes .now)
-taken s = accepted (s .args .t1) (s .args .bytes .now) 48 (s .pre .0 .0)
+taken s = accepted-meets (s .args .t1) (s .args .bytes .now) 48 (s .pre .0 .0)
 
 within : (s : tie.Start) → WithinCeiling (s .args .t1) (s .args .t)
 within s = taken s .ledger .at (s .args .t) (s .pre .0 .1)

@@ -8,7 +8,7 @@ use Rattle.carbon.specs.Carbon.{mostBrought}
 use Rattle.ledger.specs.Step.{decayedAt}
 use Rattle.ledger.specs.declared.period.Decayed.{Decayed}
 use Rattle.ledger.proofs.Settle.{all-decayed, seven-small}
-use Rattle.ledger.proofs.Accepted.{accepted, new-small, no-carbon}
+use Rattle.ledger.proofs.Accepted.{accepted-meets, new-small, no-carbon}
 use Rattle.ledger.proofs.book.Ledger.decay_all.Statement.{statement}
 use Rattle.ledger.proofs.book.Ledger.decay_all.Tie as tie
 
@@ -17,7 +17,7 @@ unfolding decayedAt
 one s t h e =
     let l = s .args .self in
     let bytes = s .args .bytes .now in
-    rw e (new-small l bytes (accepted l bytes 48 (s .pre .0)) t h .G)
+    rw e (new-small l bytes (accepted-meets l bytes 48 (s .pre .0)) t h .G)
 
 -- what the releases are at most
 each : (c : tie.After-decay7) → c .before .before .before .before .before .before .decay .result .release + c .before .before .before .before .before .decay2 .result .release + c .before .before .before .before .decay3 .result .release + c .before .before .before .decay4 .result .release + c .before .before .decay5 .result .release + c .before .decay6 .result .release + c .decay7 .result .release ≤ 7 * mostBrought
@@ -32,7 +32,7 @@ returns c =
     let s = d .before .before .before .before .before .before .before .before in
     let l = s .args .self in
     let bytes = s .args .bytes .now in
-    all-decayed l bytes (no-carbon l bytes (accepted l bytes 48 (s .pre .0))) (d .before .before .before .before .before .before .decay .ensures) (d .before .before .before .before .before .decay2 .ensures) (d .before .before .before .before .decay3 .ensures)
+    all-decayed l bytes (no-carbon l bytes (accepted-meets l bytes 48 (s .pre .0))) (d .before .before .before .before .before .before .decay .ensures) (d .before .before .before .before .before .decay2 .ensures) (d .before .before .before .before .decay3 .ensures)
     (d .before .before .before .decay4 .ensures) (d .before .before .decay5 .ensures) (d .before .decay6 .ensures) (d .decay7 .ensures)
 
 pub decay-all-spec : {M : Type 1} → statement M

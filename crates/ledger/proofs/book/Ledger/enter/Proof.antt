@@ -14,7 +14,7 @@ use Rattle.carbon.specs.Carbon.{mostBrought}
 use Rattle.ledger.specs.Step.{broughtAt, stockAt, newBrought, newStock, newReleased, x0Of, periodOfAll, after}
 use Rattle.ledger.specs.Take.{acceptedOf, enteredOf, totalStock, totalBrought, outputFields, outputRecord}
 use Rattle.ledger.proofs.Sound.{Sound, sound-is, gone-is}
-use Rattle.ledger.proofs.Accepted.{Accepted, accepted, stays-sound, has-room, room-alike}
+use Rattle.ledger.proofs.Accepted.{Accepted, accepted-meets, stays-sound, has-room, room-alike}
 use Rattle.ledger.proofs.book.Ledger.enter.Statement.{statement}
 use Rattle.ledger.proofs.book.Ledger.enter.Tie as tie
 
@@ -22,7 +22,7 @@ enough : (s : tie.Start) → recordBytes ≤ length (now (s .args .out))
 enough s = has-room (s .args .self) (s .args .bytes .now) (length (now (s .args .out))) (s .pre .0)
 
 taken : (s : tie.Start) → Accepted (s .args .self) (s .args .bytes .now)
-taken s = accepted (s .args .self) (s .args .bytes .now) (length (now (s .args .out))) (s .pre .0)
+taken s = accepted-meets (s .args .self) (s .args .bytes .now) (length (now (s .args .out))) (s .pre .0)
 
 next-sound : (s : tie.Start) → Sound (after (s .args .self) (s .args .bytes .now))
 next-sound s = sound-is (after (s .args .self) (s .args .bytes .now)) (stays-sound (s .args .self) (s .args .bytes .now) (taken s))

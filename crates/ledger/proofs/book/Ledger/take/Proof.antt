@@ -8,6 +8,7 @@ use borrow.Author.Needs.{needs}
 use denote.Ref.{now}
 use lib.ListN.{length, getD}
 use Rattle.numbers.specs.Eight.{eight}
+use Rattle.refusal.proofs.Laws.{first-with-masses}
 use Rattle.ledger.specs.Refusal.{refusalOf}
 use Rattle.ledger.specs.Take.{acceptedOf, enteredOf, outputFields, takeOf}
 use Rattle.ledger.specs.declared.book.Ledger.{Ledger}
@@ -17,12 +18,14 @@ use Rattle.ledger.proofs.Take.{taken, refused-by, accepted-writes}
 use Rattle.ledger.proofs.book.Ledger.take.Statement.{statement}
 use Rattle.ledger.proofs.book.Ledger.take.Tie as tie
 
-abbrev start : tie.After-first → tie.Start
-start c = c .before .before .before .before .before
+abbrev start : tie.After-with-masses → tie.Start
+start c = c .before .before .before .before .before .before
 
-found : (c : tie.After-first) → let a = start c .args in c .first .result ≡ refusalOf (a .self) (a .bytes .now) (length (now (a .out)))
+found : (c : tie.After-with-masses) → let a = start c .args in c .with-masses .result ≡ refusalOf (a .self) (a .bytes .now) (length (now (a .out)))
 unfolding refusalOf
-found c = rw (c .before .before .is-sound .ensures) at (c .first .ensures)
+found c =
+    rw (c .before .early .ensures, c .before .before .before .is-sound .ensures) at (c .with-masses .ensures)
+    ∙ sym (first-with-masses _ _ _ _ _ _ _)
 
 none : (c : tie.Else1) → let a = start (c .before) .args in refusalOf (a .self) (a .bytes .now) (length (now (a .out))) ≡ 0
 none c = sym (found (c .before)) ∙ c .if1 .left
@@ -31,7 +34,7 @@ returns : tie.Need-returns
 returns c =
     let first = c .before .before in
     let a = start first .args in
-    let r = refused-by (a .self) (a .bytes .now) (now (a .out)) (first .first .result) (sym (found first)) (c .before .if1 .taken) in
+    let r = refused-by (a .self) (a .bytes .now) (now (a .out)) (first .with-masses .result) (sym (found first)) (c .before .if1 .taken) in
     (c .refused .ensures ∙ r .0, r .1)
 
 enter-requires : tie.Need-enter-requires
@@ -67,4 +70,4 @@ returns-2 c =
 pub take-spec : {M : Type 1} → statement M
 take-spec =
     tie.close
-    (tie.spec (λ c κs. tt) (λ c κs. tt) (λ c κs. tt) returns (λ c κs. tt) (λ c κs. tt) (λ c κs. tt) enter-requires less-requires (λ c. search needs) returns-2)
+    (tie.spec (λ c κs. tt) (λ c κs. tt) (λ c κs. tt) (λ c κs. tt) returns (λ c κs. tt) (λ c κs. tt) (λ c κs. tt) enter-requires less-requires (λ c. search needs) returns-2)
