@@ -3,6 +3,7 @@
 use mathlib.Core.List.{List}
 use Prim.Native.Nat.{ℕ, zero, suc, _-_, _*_, _/_, _^_}
 use lib.ListN.{set, replicate}
+use Rattle.waste.specs.Kind.{monthly}
 use Rattle.decay.specs.Series.{entryOf}
 
 -- The whole is taken as 10^16: 10^9 billionths, each 10^7.
@@ -32,4 +33,4 @@ leftAfterMonth rate = outwards rate terms scale
 -- A table by month as it is filled in: the entries of the rates 1 to k, and 0 for the others as yet.
 unfoldable pub filledTo : ℕ → List ℕ
 filledTo zero = replicate 400 0
-filledTo (suc k) = set (filledTo k) k (entryOf 2 (suc k))
+filledTo (suc k) = set (filledTo k) k (entryOf monthly (suc k))

@@ -1,6 +1,7 @@
 // The entries by month, each worked out from the series in whole numbers when it is looked up: request e of document 02.
 ghost use mathlib.Core.Path.{_≡_};
 ghost use Prim.Native.Nat.{_+_, _≤_, _<_};
+ghost use Rattle.waste.specs.Kind.{monthly};
 ghost use Rattle.decay.specs.Series.{entryOf, tableOf};
 ghost use Rattle.decay.specs.ByMonth.{scale, bracketOf, terms, leftAfterMonth, filledTo};
 
@@ -38,7 +39,7 @@ fn left_after_a_month(rate: u64) -> u64
 
 // Answers the entry of a rate by month, and 0 for a rate that the table does not have.
 pub(crate) fn monthly(rate: u16) -> u32
-    ensures { λ r. ⌜ r ≡ entryOf 2 rate ⌝ }
+    ensures { λ r. ⌜ r ≡ entryOf monthly rate ⌝ }
 {
     if rate == 0 {
         return 0;

@@ -1,6 +1,7 @@
 // The 400 entries by year, as tools/decay_tables.py prints them; the table of a kind, and what a table has for a rate.
 ghost use mathlib.Core.Path.{_≡_};
 use crate::month::monthly_table;
+ghost use Rattle.waste.specs.Kind.{yearly};
 ghost use Rattle.decay.specs.Series.{entryOf, tableOf, atRate};
 
 const YEARLY: [u32; 400] = [
@@ -441,7 +442,7 @@ pub fn at_rate(table: &[u32], rate: u16) -> u32
 
 // Answers the entry of a rate by year, and 0 for a rate that the table does not have.
 pub(crate) fn yearly(rate: u16) -> u32
-    ensures { λ r. ⌜ r ≡ entryOf 1 rate ⌝ }
+    ensures { λ r. ⌜ r ≡ entryOf yearly rate ⌝ }
 {
     let table = yearly_table();
     at_rate(&table, rate)
