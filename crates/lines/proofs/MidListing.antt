@@ -13,11 +13,11 @@ use Rattle.record.specs.Fields.{recordBytes}
 use Rattle.carbon.specs.Carbon.{mostRecords}
 use Rattle.ledger.specs.Step.{fresh}
 use Rattle.run.specs.History.{outputs, recordsOf, Run, outOf, outcomeOf, wholeRun}
-use Rattle.run.specs.Stretches.{stretchBytes, stretchRun}
+use Rattle.stretches.specs.Stretches.{stretchBytes, stretchRun}
 use Rattle.run.specs.declared.Outcome.{Outcome}
 use Rattle.ledger.specs.declared.book.Ledger.{Ledger}
 use Rattle.run.proofs.History.{no-records, run-ends, Counts, run-most}
-use Rattle.run.proofs.Stretches.{restRun, counts, output-fits, output-size, all-records, stretch-most, goes-on, ends-here}
+use Rattle.stretches.proofs.Stretches.{restRun, counts, output-fits, output-size, all-records, stretch-most, goes-on, ends-here}
 use Rattle.line.specs.Line.{lineBytes, refusedText}
 use Rattle.line.specs.Writing.{Writes}
 use Rattle.lines.specs.Listing.{linesOf, endText, runText, listingOf, mostLines, roomFor, listedOf, textOf, LendableText}

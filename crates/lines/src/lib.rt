@@ -1,10 +1,10 @@
 // The listing of a whole file: the last part of document 01's section 'Worked figures'.
 // The program `listing`, the entry for C and the test vectors call it.
-mod stretch;
+mod by_stretch;
 mod writing;
 
+use by_stretch::write_listing;
 use ledger::Ledger;
-use stretch::write_listing;
 ghost use mathlib.Core.Path.{_≡_};
 ghost use Prim.Native.Nat.{_+_, _≤_};
 ghost use lib.ListN.{length};

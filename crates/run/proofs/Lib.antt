@@ -1,4 +1,3 @@
 pub mod History
 pub mod OneRecord
 pub mod MidRun
-pub mod Stretches

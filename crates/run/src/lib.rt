@@ -1,10 +1,4 @@
 // Whole runs: 'One step' of document 01, its last paragraph. A file of records is taken one after another, from any ledger.
-mod stretch;
-
-pub use stretch::STRETCH;
-pub use stretch::run_stretch;
-pub use stretch::stretch_end;
-pub use stretch::whole_run;
 ghost use mathlib.Core.Bool.{true};
 ghost use mathlib.Core.Path.{_≡_};
 ghost use lib.ListN.{length, take};

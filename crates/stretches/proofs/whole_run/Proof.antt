@@ -5,10 +5,10 @@ use Prim.Native.Nat.{ℕ, _-_, _<_}
 use native.Mathlib.Omega.{arith}
 use borrow.Author.Needs.{needs}
 use lib.ListN.{length, drop}
-use Rattle.run.specs.Stretches.{stretchBytes}
-use Rattle.run.proofs.Stretches.{goes, no-more, MidWhole, whole-starts, whole-goes-on, whole-ends, output-size}
-use Rattle.run.proofs.stretch.whole_run.Statement.{statement}
-use Rattle.run.proofs.stretch.whole_run.Tie as tie
+use Rattle.stretches.specs.Stretches.{stretchBytes}
+use Rattle.stretches.proofs.Stretches.{stretch-is, goes, no-more, MidWhole, whole-starts, whole-goes-on, whole-ends, output-size}
+use Rattle.stretches.proofs.whole_run.Statement.{statement}
+use Rattle.stretches.proofs.whole_run.Tie as tie
 
 abbrev Inv-loop : tie.InvT-loop
 Inv-loop file out₀ ledger₀ at₀ refusal₀ out ledger at refusal = (MidWhole file ledger at refusal) × (length out ≡ stretchBytes)
@@ -31,7 +31,7 @@ loop-again c =
     let ran = c .before .before .before .run-stretch in
     let in-loop = c .before .before .before .before .before in
     let loop = in-loop .before .loop in
-    let end = c .stretch-end .ensures in (
+    let end = stretch-is (file in-loop) (loop .at) (loop .inv .0 .in-file) (c .stretch-end .ensures) in (
       whole-goes-on (here in-loop) (ran .ensures .0) (c .stretch-end .result) (end .in-file) (end .rest),
       ap length (ran .ensures .1) ∙ output-size (loop .ledger) (drop (loop .at) (file in-loop)) (here in-loop .few) (loop .out) (loop .inv .1),
     )
@@ -42,6 +42,7 @@ whole-run-spec =
     (tie.spec Inv-loop μ-loop (λ c κs. tt) (λ c. (rw (c .fresh .ensures) (whole-starts (c .before .before .args .file .now)), refl))
     (λ c. search needs) (λ c κs. (c .before .before .loop .inv .0 .in-file, c .before .before .loop .inv .1))
     (λ c κs. c .before .before .before .before .before .loop .inv .0 .in-file)
-    (λ c. let end = c .stretch-end .ensures in omega (arith, end .far (more (c .before .before .before .before .before) .1), end .in-file)) loop-again
+    (λ c. let in-loop = c .before .before .before .before .before in let loop = in-loop .before .loop in
+    let end = stretch-is (file in-loop) (loop .at) (loop .inv .0 .in-file) (c .stretch-end .ensures) in omega (arith, end .far (more (c .before .before .before .before .before) .1), end .in-file)) loop-again
     (λ c. omega (arith, c .before .before .loop .inv .0 .few))
     (λ c. let loop = c .before .before .loop in whole-ends (loop .inv .0) (no-more (loop .refusal) (loop .at) (length (c .before .before .before .before .before .args .file .now)) (c .before .loop-test .left))))

@@ -1,12 +1,12 @@
-// A file in stretches, so that no caller has to lend an output buffer for all of it, and what a run looks up once is paid once a stretch.
+// A file run in stretches of 32 records, so that no caller has to lend an output buffer for all of it: 'One step' of document 01, its last
+// paragraph. The listing calls it. What a run looks up once is looked up once a stretch.
 ghost use mathlib.Core.Path.{_≡_};
 ghost use Prim.Native.Nat.{_≤_};
 ghost use lib.ListN.{length, drop};
 ghost use Rattle.run.specs.History.{outcomeOf, outOf, wholeRun};
-ghost use Rattle.run.specs.Stretches.{stretchBytes, Stretch, stretchRun};
-use crate::Outcome;
-use crate::run;
+ghost use Rattle.stretches.specs.Stretches.{stretchBytes, stretchEnd, stretchRun};
 use ledger::Ledger;
+use run::Outcome;
 
 // The bytes of a stretch, and of its output records.
 pub const STRETCH: usize = 32 * Ledger::BYTES;
@@ -14,7 +14,7 @@ pub const STRETCH: usize = 32 * Ledger::BYTES;
 // Answers where the stretch that starts at a place ends.
 pub fn stretch_end(file: &[u8], at: usize) -> usize
     requires { ⌜ at ≤ length (now file) ⌝ }
-    ensures { λ r. ⌜ Stretch (now (file .entry)) at r ⌝ }
+    ensures { λ r. ⌜ r ≡ stretchEnd (length (now (file .entry))) at ⌝ }
 {
     if file.len() - at < STRETCH {
         return file.len();
@@ -30,7 +30,7 @@ pub fn run_stretch(ledger: Ledger, file: &[u8], at: usize, out: &mut [u8]) -> Ou
     ensures { λ _. ⌜ now (out .exit) ≡ outOf (stretchRun ledger (drop at (now (file .entry)))) (now (out .entry)) ⌝ }
 {
     let end = stretch_end(file, at);
-    run(ledger, &file[at..end], out)
+    run::run(ledger, &file[at..end], out)
 }
 
 // Answers the ledger, the number of accepted records and the refusal with which a file ends that is run from a fresh ledger with room

@@ -1,23 +1,61 @@
 -- The run of what is left of a file is the run of its first stretch and, where that refuses nothing, the run of the rest.
 use mathlib.Core.Path.{_≡_, refl, sym, ap, _∙_}
-use mathlib.Core.Bool.{true, false, cond, _&&_}
+use mathlib.Core.Bool.{Bool, true, false, cond, _&&_}
 use mathlib.Core.List.{List, [], _++_, append-nil}
 use Prim.Native.Nat.{ℕ, _+_, _-_, _*_, _≤_, _<_}
+use native.Mathlib.Nat.{add-sub-cancel-left}
 use native.Mathlib.Decide.{decLe, ℕ-discrete}
 use native.Mathlib.Omega.{arith}
 use borrow.Author.Tests.{eqb-true, ltb-true, ltb-false, eq-eqb, ne-eqb}
 use lib.Dec.{eqb, ltb}
-use lib.ListN.{length, take, drop, length-drop, length-append, length-take, take-append-drop}
-use lib.Seq.{length-take-le, take-all}
+use lib.ListN.{length, take, drop, length-drop, length-append, length-take, take-append-drop, drop-of-length-le}
+use lib.Seq.{length-take-le, take-all, drop-drop}
 use Rattle.numbers.proofs.Eight.{both-true}
 use Rattle.record.specs.Fields.{recordBytes}
 use Rattle.carbon.specs.Carbon.{mostRecords}
 use Rattle.ledger.specs.Step.{fresh}
 use Rattle.ledger.specs.declared.book.Ledger.{Ledger}
 use Rattle.run.specs.History.{recordsOf, Run, runOf, outOf, outcomeOf, wholeRun}
-use Rattle.run.specs.Stretches.{stretchBytes, stretchRun}
+use Rattle.stretches.specs.Stretches.{stretchBytes, stretchEnd, stretchRun}
 use Rattle.run.specs.declared.Outcome.{Outcome}
 use Rattle.run.proofs.History.{no-records, records-join, records-count, onFrom, run-ends, run-join, run-refused, run-roomy, Counts, run-counts, run-most, outputs-length}
+
+-- A stretch of a file from a place to its end: 32 records, or what is left.
+pub record Stretch (file : List ℕ) (at end : ℕ) : Type 0 where
+  pub in-file : end ≤ length file
+  pub on : at ≤ end
+  pub part : take (end - at) (drop at file) ≡ take stretchBytes (drop at file)
+  pub rest : drop end file ≡ drop stretchBytes (drop at file)
+  pub far : at < length file → at < end
+
+the-rest : (file : List ℕ) (at : ℕ) → at ≤ length file → length file - at < stretchBytes → Stretch file at (length file)
+the-rest file at h short =
+    let left = drop at file in
+    record {
+      in-file = omega arith;
+      on = h;
+      part = take-all (length file - at) left (simp length-drop (omega arith)) ∙ sym (take-all stretchBytes left (simp length-drop (omega arith)));
+      rest = drop-of-length-le file {i = length file} (omega arith) ∙ sym (drop-of-length-le left {i = stretchBytes} (simp length-drop (omega arith)));
+      far = λ l. l;
+    }
+
+a-stretch : (file : List ℕ) (at : ℕ) → at + stretchBytes ≤ length file → Stretch file at (at + stretchBytes)
+a-stretch file at h =
+    record {
+      in-file = h;
+      on = omega arith;
+      part = rw (add-sub-cancel-left at stretchBytes);
+      rest = sym (drop-drop stretchBytes at file);
+      far = λ l. omega arith;
+    }
+
+pub stretch-is : (file : List ℕ) (at : ℕ) {end : ℕ} → at ≤ length file → end ≡ stretchEnd (length file) at → Stretch file at end
+unfolding stretchEnd
+stretch-is file at h e = rw e (by-size (ltb (length file - at) stretchBytes) refl)
+  where
+    by-size : (short : Bool) → ltb (length file - at) stretchBytes ≡ short → Stretch file at (cond short (length file) (at + stretchBytes))
+    by-size true less = the-rest file at h (ltb-true (length file - at) stretchBytes less)
+    by-size false more = a-stretch file at (omega (arith, ltb-false (length file - at) stretchBytes more))
 
 -- What the test at the head of a loop over stretches says: nothing is refused, and bytes are left.
 pub goes : (refusal at size : ℕ) → (eqb refusal 0 && ltb at size) ≡ true → (refusal ≡ 0) × (at < size)

@@ -5,11 +5,11 @@ use native.Mathlib.Omega.{arith}
 use borrow.Author.Needs.{needs}
 use denote.Ref.{now}
 use lib.ListN.{length}
-use Rattle.run.specs.Stretches.{stretchBytes}
-use Rattle.run.proofs.Stretches.{goes, no-more}
+use Rattle.stretches.specs.Stretches.{stretchBytes}
+use Rattle.stretches.proofs.Stretches.{stretch-is, goes, no-more}
 use Rattle.lines.proofs.MidListing.{MidListing, listing-starts, listing-ends, output-stays, lines-fit, stretch-on}
-use Rattle.lines.proofs.stretch.write_listing.Statement.{statement}
-use Rattle.lines.proofs.stretch.write_listing.Tie as tie
+use Rattle.lines.proofs.by_stretch.write_listing.Statement.{statement}
+use Rattle.lines.proofs.by_stretch.write_listing.Tie as tie
 
 abbrev Inv-loop : tie.InvT-loop
 Inv-loop file text₀ out₀ ledger₀ at₀ len₀ refusal₀ text out ledger at len refusal = (MidListing file text₀ text ledger at len refusal) × (length out ≡ stretchBytes)
@@ -42,9 +42,9 @@ loop-again c =
     let lines = c .before .before .before .before in
     let r = lines .before .before .before .before in
     let ran = r .run-stretch in
-    let end = c .stretch-end .ensures in
     let h = here (start r) in
-    let loop = start r .before .loop in (
+    let loop = start r .before .loop in
+    let end = stretch-is (start r .before .before .before .before .before .args .file .now) (loop .at) (h .in-file) (c .stretch-end .ensures) in (
       stretch-on h (loop .out) (loop .inv .1) (ran .ensures .0) (ran .ensures .1) (lines .put-lines .ensures .0) (lines .put-lines .ensures .1) (c .stretch-end .result) (end .in-file) (end .rest),
       output-stays h (loop .out) (loop .inv .1) (ran .ensures .0) (ran .ensures .1),
     )
@@ -53,7 +53,7 @@ loop-less : tie.Need-loop-less Inv-loop μ-loop
 loop-less c =
     let s = start (c .before .before .before .before .before .before .before .before) in
     let loop = s .before .loop in
-    let end = c .stretch-end .ensures in
+    let end = stretch-is (s .before .before .before .before .before .args .file .now) (loop .at) (loop .inv .0 .in-file) (c .stretch-end .ensures) in
     omega (arith, end .far (goes (loop .refusal) (loop .at) (length (s .before .before .before .before .before .args .file .now)) (s .loop-test .taken) .1), end .in-file)
 
 returns : tie.Need-returns Inv-loop μ-loop

@@ -12,18 +12,18 @@ pub(crate) fn write_listing(file: &[u8], text: &mut [u8]) -> usize
     requires { ⌜ roomFor (now file) ≤ length (now text) ⌝ }
     ensures { λ r. ⌜ Lists (now (file .entry)) (now (text .entry)) (now (text .exit)) r ⌝ }
 {
-    let mut out = [0u8; run::STRETCH];
+    let mut out = [0u8; stretches::STRETCH];
     let mut ledger = Ledger::fresh();
     let mut at: usize = 0;
     let mut length: usize = 0;
     let mut refusal: u8 = 0;
     while (refusal == 0) & (at < file.len()) {
-        let ran = run::run_stretch(ledger, file, at, &mut out);
+        let ran = stretches::run_stretch(ledger, file, at, &mut out);
         length = put_lines(text, length, &out, ran.accepted);
         let next = ran.ledger;
         ledger = next;
         refusal = ran.refusal;
-        at = run::stretch_end(file, at);
+        at = stretches::stretch_end(file, at);
     }
     put_end(text, length, refusal, ledger.n as u64 + 1)
 }
