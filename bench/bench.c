@@ -68,15 +68,17 @@ static void change_records(uint8_t kind, int measured)
 static uint8_t by_library(const uint8_t *records, size_t records_len, uint8_t *into, size_t into_len, uint64_t *accepted)
 {
     uint8_t ledger[LANDFILL_LEDGER_BYTES];
+    uint64_t work;
     landfill_fresh(ledger, sizeof ledger);
-    return landfill_run(ledger, sizeof ledger, records, records_len, into, into_len, accepted);
+    return landfill_run(ledger, sizeof ledger, records, records_len, into, into_len, accepted, &work);
 }
 
 static uint8_t by_reference(const uint8_t *records, size_t records_len, uint8_t *into, size_t into_len, uint64_t *accepted)
 {
     uint8_t ledger[LANDFILL_LEDGER_BYTES];
+    uint64_t work;
     reference_fresh(ledger, sizeof ledger);
-    return reference_run(ledger, sizeof ledger, records, records_len, into, into_len, accepted);
+    return reference_run(ledger, sizeof ledger, records, records_len, into, into_len, accepted, &work);
 }
 
 /* The records one by one, from an image to an image. */

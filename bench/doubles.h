@@ -1,6 +1,6 @@
 /* The same landfill in C's doubles, as packages have it: the peers that the library is measured beside. Each reads
  * records of 48 bytes from the first period on, refuses what refusals 1, 2, 4 to 9 and 17 of documents 01 and 02 refuse, and
- * writes output records of 48 bytes, with 0 for the bound. It answers the refusal, 0 if none. */
+ * writes output records of 48 bytes, with 0 for the bound. It answers the refusal, 0 if none. It does not count decay work. */
 #ifndef DOUBLES_H
 #define DOUBLES_H
 

@@ -19,11 +19,12 @@ def step_case(ledger, data, room=BYTES, expect=None):
     return case("s", cases.image(ledger) + little([(room, 2)]) + data)
 
 
-def run_case(ledger, data, room, expect=None):
-    """A whole run; expect is the accepted count and the refusal that it is built for."""
-    found = reference.run(ledger, data, bytes(min(room, cases.LONGEST)))[1:3]
-    if expect not in (None, found):
-        raise SystemExit(f"run built for {expect}, found {found}: {ledger} room {room}")
+def run_case(ledger, data, room, expect=None, work=None):
+    """A whole run; expect is the accepted count and the refusal that it is built for, work its decay work."""
+    answer = reference.run(ledger, data, bytes(min(room, cases.LONGEST)))
+    found = answer.accepted, answer.refusal
+    if expect not in (None, found) or work not in (None, answer.work):
+        raise SystemExit(f"run built for {expect}, work {work}, found {found}, {answer.work}: {ledger} room {room}")
     return case("r", cases.image(ledger) + little([(room, 4)]) + data)
 
 

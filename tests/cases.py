@@ -51,7 +51,8 @@ def step_line(payload):
 def run_line(payload):
     lent = b"\xa5" * min(number(payload, 200, 4), LONGEST)
     answer = reference.run(read_image(payload), payload[204:], lent)
-    return spaced([answer.accepted, answer.refusal, *fields(answer.ledger)]) + " " + hexed(answer.output)
+    numbers = [answer.accepted, answer.refusal, answer.work, *fields(answer.ledger)]
+    return spaced(numbers) + " " + hexed(answer.output)
 
 
 def listing_line(payload):

@@ -5,8 +5,8 @@
   make_cases.py --store
   make_cases.py --check
 
-GROUP is base, door, samples, released, months, uncertainty, sludge, orders, all of these, every-sum, every-rate or
-every-order.
+GROUP is base, door, samples, released, months, uncertainty, sludge, orders, work, all of these, every-sum, every-rate
+or every-order.
 DIR gets cases.bin and cases.txt, and a pair stop-*.bin, stop-*.txt for each way in which input cannot be read.
 Every run with the same seed writes the same bytes; the stored cases are those of all groups with seed 1. Three groups
 are not among them: every-sum has a case for each sum of squares that uncertainties come to, every-rate a look-up of
@@ -31,10 +31,12 @@ from released_cases import released
 from samples_cases import samples
 from sludge_cases import sludge
 from uncertainty_cases import every_sum, uncertainty
+from work_cases import work
+from work_faults import work_stopped
 
 ROOT = os.path.join(os.path.dirname(os.path.abspath(__file__)), "..")
 GROUPS = {"base": [base], "door": [door], "samples": [samples], "released": [released], "months": [months]}
-GROUPS |= {"uncertainty": [uncertainty], "sludge": [sludge], "orders": [orders]}
+GROUPS |= {"uncertainty": [uncertainty], "sludge": [sludge], "orders": [orders], "work": [work, work_stopped]}
 GROUPS["all"] = [cases_of for group in GROUPS.values() for cases_of in group]
 GROUPS["every-sum"] = [every_sum]
 GROUPS["every-rate"] = [every_rate]

@@ -1,4 +1,4 @@
-"""Document 01 with requests a to d, f and g of document 02 worked out a second time, to run the Rattle code against.
+"""Document 01 with requests a to d and f to h of document 02 worked out a second time, to run the Rattle code against.
 
 One function for each rule, in the documents' order and with their letters. Numbers are exact, and everything is a
 value: an output buffer goes in as bytes and comes back as bytes. Type j stands at place j - 1 of every list of eight.
@@ -132,12 +132,16 @@ def deposits(record):
     return tuple(mass * doc * 100 for mass, doc in zip(record.masses, DOC_of(record)))
 
 
+def held(ledger, record):
+    """H, the stock with the record's deposit, in mg for each type."""
+    return tuple(r + deposit for r, deposit in zip(ledger.R, deposits(record)))
+
+
 def take(ledger, record):
     """The ledger after an accepted record, and the eight releases G."""
     D = [decay(record.kind, rate) for rate in rates(record.climate)]
-    brought = deposits(record)
-    T = tuple(t + deposit for t, deposit in zip(ledger.T, brought))
-    H = [r + deposit for r, deposit in zip(ledger.R, brought)]
+    T = tuple(t + deposit for t, deposit in zip(ledger.T, deposits(record)))
+    H = held(ledger, record)
     R = tuple(h * d // 10**9 for h, d in zip(H, D))
     G = tuple(h - r for h, r in zip(H, R))
     released = tuple(so_far + g for so_far, g in zip(ledger.released, G))
@@ -186,6 +190,7 @@ class Run(NamedTuple):
     ledger: Ledger
     accepted: int
     refusal: int
+    work: int  # decay multiplications, of the accepted records
     output: bytes
 
 
@@ -196,13 +201,15 @@ def records_of(data):
 
 def run(ledger, data, output):
     """The whole run: stops at the first record that is refused."""
+    work = 0
     for accepted, offered in enumerate(records_of(data)):
         at = BYTES * accepted
         answer = step(ledger, offered, output[at:])
         if answer.refusal:
-            return Run(ledger, accepted, answer.refusal, output)
+            return Run(ledger, accepted, answer.refusal, work, output)
+        work += work_of(ledger, read_record(offered))
         ledger, output = answer.ledger, output[:at] + answer.output
-    return Run(ledger, len(records_of(data)), 0, output)
+    return Run(ledger, len(records_of(data)), 0, work, output)
 
 
 # "Refusal numbers, tested in this order"
@@ -522,3 +529,11 @@ def repair(order, file, output, report):
     told = bytes(map(changes, old, new))
     changed = sum(byte.bit_count() for byte in told)
     return Repair(0, changed, b"".join(new) + output[len(file) :], told + report[len(told) :])
+
+
+# Document 02, request h: how much decay work a run did
+
+
+def work_of(ledger, record):
+    """The decay work of an accepted record: one for every type whose stock with deposit is above zero before decay."""
+    return sum(1 for h in held(ledger, record) if h > 0)

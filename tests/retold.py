@@ -1,5 +1,5 @@
-"""The documents told a second time: the sources' tables as they stand there, equations of 000 in fractions, and the
-repair of shuffled files by columns.
+"""The documents told a second time: the sources' tables as they stand there, equations of 000 in fractions, the
+repair of shuffled files by columns, and the decay work of a run by columns.
 
 Row names, units and digits are the sources' own. Nothing here is taken from the reference, so that selftest.py sees
 a slip in a constant of either.
@@ -7,6 +7,7 @@ a slip in a constant of either.
 import struct
 from decimal import Context, Decimal
 from fractions import Fraction
+from functools import cache
 from itertools import chain
 from math import floor, isqrt
 
@@ -105,6 +106,7 @@ def correction(site_class):
     return Fraction(list(MCF.values())[site_class - 1])
 
 
+@cache
 def entry(kind, k):
     """e to the power -k for a year, -k/12 for a month, in billionths rounded down."""
     return floor(DIGITS.exp(DIGITS.divide(-k, PERIODS[kind])).scaleb(9))
@@ -139,13 +141,17 @@ def bound(record, n, T):
     return 3 + floor(grams(record, B))
 
 
+def remaining(record):
+    """The part of each type's carbon that the decay of a record's period leaves, 0 where nothing decays."""
+    return tuple(Fraction(entry(record.kind, k) if k else 0, 10**9) for k in rates(record.climate))
+
+
 def step(ledger, record):
     """T, R and what is gone of T after an accepted record, the releases, x0, figure and bound."""
     brought = carbon(record.masses, record.m7, record.m8)
     T = tuple(map(sum, zip(ledger.T, brought)))
     H = tuple(map(sum, zip(ledger.R, brought)))
-    kept = [Fraction(entry(record.kind, k) if k else 0, 10**9) for k in rates(record.climate)]
-    R = tuple(floor(h * part) for h, part in zip(H, kept))
+    R = tuple(floor(h * part) for h, part in zip(H, remaining(record)))
     gone, G = (tuple(whole - r for whole, r in zip(wholes, R)) for wholes in (T, H))
     return T, R, gone, G, sum(G), figure(record, sum(G)), bound(record, ledger.n + 1, T)
 
@@ -219,3 +225,17 @@ def repaired(order, file, output, report):
     told = bytes(sum(2**j for j, other in enumerate(row) if other) for row in zip(*others, strict=True))
     written = struct.pack(f"<{len(words)}I", *chain(*zip(*kept, *new, strict=True)))
     return 0, sum(map(sum, others)), written + output[len(written) :], told + report[len(told) :]
+
+
+def column(left, brought, parts):
+    """One type down a run: the carbon that each period finds, left from before or brought, and decays to a part."""
+    for mg, part in zip(brought, parts, strict=True):
+        yield left + mg
+        left = floor((left + mg) * part)
+
+
+def work(R, records):
+    """Request h by columns: for each type, how many of the accepted records find any carbon of it, after stocks R."""
+    brought = zip(*(carbon(record.masses, record.m7, record.m8) for record in records))
+    columns = map(column, R, brought, zip(*map(remaining, records)))
+    return sum(found != 0 for found in chain(*columns))

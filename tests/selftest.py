@@ -4,7 +4,8 @@
 It holds the refusal numbers to those of docs/METHOD.md, README.md and include/landfill.h.
 
 Of document 02 it holds masses from samples, the carbon released so far, months that share the year's factors, the
-correction factor from uncertainties, sludge with a measured dry matter, and the shuffled files put right.
+correction factor from uncertainties, sludge with a measured dry matter, the shuffled files put right, and the decay
+work of a run.
 
 Prints ok and exits 0, or stops at the first check that fails.
 """
@@ -26,6 +27,7 @@ import retold
 import samples_cases
 import sludge_checks
 import uncertainty_checks
+import work_checks
 from checks import NO_VALUES, NOTHING, ROOM, check, fields_of, offered, told_again
 from faults import applied, named
 from histories import KINDS_AND_CLIMATES, PLAIN, balanced, damaged, file_of, measured, next_measured, next_record, only
@@ -173,9 +175,9 @@ def worked_figures():
 def run_only():
     check("f 10000", offered(f=10000, masses=(10**9,) * 8).figure, 0)
     file = file_of(PLAIN._replace(period=n, masses=(n,) * 8) for n in range(1, 1202))
-    check("record 1200", reference.run(FRESH, file[:-48], file)[1:3], (1200, 0))
-    check("record 1201", reference.run(FRESH, file, file)[1:3], (1200, 4))
-    check("no bytes", (reference.listing(b""), reference.run(FRESH, b"", b"")), ("", (FRESH, 0, 0, b"")))
+    check("record 1200", reference.run(FRESH, file[:-48], file)[1:4], (1200, 0, 8400))
+    check("record 1201", reference.run(FRESH, file, file)[1:4], (1200, 4, 8400))
+    check("no bytes", (reference.listing(b""), reference.run(FRESH, b"", b"")), ("", (FRESH, 0, 0, 0, b"")))
 
 
 def listing_sample():
@@ -367,12 +369,17 @@ def main():
     order_checks.worked()
     order_checks.named_once()
     order_checks.every_room()
+    work_checks.worked()
+    work_checks.last_milligrams()
+    work_checks.refused()
+    work_checks.unsound()
     tables()
     in_whole_numbers()
     unlikely()
     image()
     sludge_checks.every_byte()
     sludge_checks.greatest()
+    work_checks.long_runs()
     rng = random.Random(1)
     for kind, climate in KINDS_AND_CLIMATES:
         for part in (Fraction(0), Fraction(rng.randint(1, 98), 99), 1 - Fraction(1, 10**9), 1 - Fraction(1, 10**40)):
@@ -388,6 +395,10 @@ def main():
     uncertainty_checks.never_higher(rng)
     order_checks.in_order(rng)
     order_checks.at_random(rng)
+    work_checks.factors_aside(rng)
+    work_checks.one_record(rng)
+    for kind, climate in KINDS_AND_CLIMATES:
+        work_checks.at_random(rng, kind, climate)
     cases_page()
     uncertainty_checks.every_sum()
     order_checks.every_order(rng)

@@ -1,7 +1,8 @@
 #!/usr/bin/env python3
 """A test of the selftest: changes each number of the reference by one, up and down, and sees the selftest fail.
 
-And one of the stored cases of request g: sees them answered otherwise by every wrong reading in order_slips.py.
+And one of the stored cases of requests g and h: sees them answered otherwise by every wrong reading in order_slips.py
+and in work_slips.py.
 
   slips.py    names every change and reading that goes unseen, then counts; status 1 where there is one (some minutes)
 """
@@ -13,10 +14,12 @@ import sys
 import tempfile
 
 import order_slips
+import work_slips
 
 ROOT = os.path.join(os.path.dirname(os.path.abspath(__file__)), "..")
 FILE = os.path.join("tests", "reference.py")
 SAME = "range(16, (48 - 1), 4)"  # the one change that changes nothing
+MISREAD = {"g": order_slips, "h": work_slips}  # wrong readings of a request
 
 
 def numbers(node):
@@ -61,12 +64,13 @@ def main():
             raise SystemExit("the selftest fails with nothing changed")
         tried = list(slips(lines))
         unseen = [(at, slip) for at, slip in tried if passes(copy, lines[:at] + [slip] + lines[at + 1 :])]
-    misread = list(order_slips.unseen())
+    misread = [(request, name) for request, readings in MISREAD.items() for name in readings.unseen()]
     for at, slip in unseen:
         print(f"NOT SEEN: {FILE}:{at + 1}: {slip.strip()}")
-    for name in misread:
-        print(f"NOT SEEN: request g read as: {name}")
-    count, missed = len(tried) + len(order_slips.READINGS), len(unseen) + len(misread)
+    for request, name in misread:
+        print(f"NOT SEEN: request {request} read as: {name}")
+    count = len(tried) + sum(len(readings.READINGS) for readings in MISREAD.values())
+    missed = len(unseen) + len(misread)
     print(f"slips: {count - missed} seen, {missed} unseen")
     return 1 if missed else 0
 

@@ -89,7 +89,7 @@ def greatest():
     for kind, climate in KINDS_AND_CLIMATES:
         records = [greatest_record(n, kind, climate, 100) for n in range(1200)]
         ended = reference.run(FRESH, file_of(records), bytes(48 * 1200))
-        check("a full run", (*ended[1:3], ended.ledger.T), (1200, 0, T))
+        check("a full run", (*ended[1:4], ended.ledger.T), (1200, 0, 8400, T))
         full = Ledger(1199, kind, climate, ended.ledger.year, before, before)
         answers.append(step(full, write_record(records[-1]), ROOM))
         check("a full ledger", (answers[-1].refusal, answers[-1].ledger.T), (0, T))

@@ -6,7 +6,7 @@ target=target/c
 library='' seed=1
 flags='-std=c11 -O2 -Wall -Wextra -Werror -Iinclude -Itests/c'
 # The files of the differential test.
-differential='differential years sludge orders uncertainties offers sides inputs ledgers reference entries'
+differential='differential years sludge orders work reported choices uncertainties offers sides inputs ledgers reference entries'
 
 stop() { printf '%s\n' "$*" >&2; exit 2; }
 

@@ -6,6 +6,7 @@
 #include "sides.h"
 #include "sludge.h"
 #include "uncertainties.h"
+#include "work.h"
 #include "years.h"
 
 #include <inttypes.h>
@@ -308,6 +309,8 @@ int main(int count, char **words)
     all_orders();
     all_years();
     all_sludge();
+    all_work();
+    all_reported();
     all_look_ups();
     all_cells();
     all_points();

@@ -71,18 +71,20 @@ uint8_t reference_take(uint8_t *ledger, size_t ledger_len, const uint8_t *record
 }
 
 uint8_t reference_run(uint8_t *ledger, size_t ledger_len, const uint8_t *records, size_t records_len, uint8_t *out,
-                      size_t out_len, uint64_t *accepted)
+                      size_t out_len, uint64_t *accepted, uint64_t *work)
 {
     struct reference_ledger book;
     struct reference_answer numbers;
     const struct reference_ledger *open = opened(&book, ledger, ledger_len);
     uint8_t refusal = 0;
     size_t done = 0;
+    *work = 0;
     for (*accepted = 0; done < records_len; *accepted += 1, done += BYTES) {
         size_t record_len = records_len - done < BYTES ? records_len - done : BYTES;
         refusal = reference_refusal(open, records + done, record_len, out_len - done);
         if (refusal != 0) break;
         reference_accept(&book, records + done, out + done, &numbers);
+        *work += numbers.work;
     }
     if (*accepted > 0) closed(ledger, &book);
     return refusal;

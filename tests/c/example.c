@@ -1,5 +1,6 @@
-/* A first program with the library: two years of the site that docs/METHOD.md works by hand, a month that was sorted, a
- * correction factor from uncertainties, sludge whose dry matter was measured, and a shuffled file that is put right.
+/* A first program with the library: two years of the site that docs/METHOD.md works by hand, with the decay work of a run, a
+ * month that was sorted, a correction factor from uncertainties, sludge whose dry matter was measured, and a shuffled file that
+ * is put right.
  * Build it with: gcc -Iinclude tests/c/example.c target/staticlib/liblandfill.a */
 #include "landfill.h"
 
@@ -33,6 +34,12 @@ static void print_output(const uint8_t *out)
     struct landfill_output it = landfill_get_output(out);
     printf("%s %" PRIu32 ": %" PRIu64 " mg of carbon released, which is %" PRIu64 " g CO2e, give or take %" PRIu64 "\n",
            it.kind == LANDFILL_YEARLY ? "year" : "month", it.period, it.x0, it.figure, it.bound);
+}
+
+/* What a batch host plans its queue by: one for each record taken and each type that had carbon, old or new. */
+static void print_work(uint64_t work)
+{
+    printf("decay work of this run: %" PRIu64 "\n", work);
 }
 
 /* What a ledger has to show at any time, with no output record at hand. */
@@ -108,7 +115,7 @@ static void shuffled_file(struct landfill_record year)
 {
     static const uint8_t order[LANDFILL_ORDER_BYTES] = {LANDFILL_FOOD, LANDFILL_WOOD, LANDFILL_PAPER, 4, 5, 6, 7, 8};
     uint8_t old[LANDFILL_RECORD_BYTES], file[sizeof old], report[1], ledger[LANDFILL_LEDGER_BYTES], out[sizeof file];
-    uint64_t changed, accepted;
+    uint64_t changed, accepted, work;
     year.period = 1;
     year.mass[1] = weighed(400.2); /* place 1 has food */
     year.mass[2] = 0;
@@ -119,15 +126,16 @@ static void shuffled_file(struct landfill_record year)
     printf("an old file put right: %" PRIu64 " masses changed, that of inert waste %s\n", changed,
            landfill_get_changed(report[0], LANDFILL_INERT) ? "too" : "not");
     landfill_fresh(ledger, sizeof ledger);
-    expect("year 1", landfill_run(ledger, sizeof ledger, file, sizeof file, out, sizeof out, &accepted));
+    expect("year 1", landfill_run(ledger, sizeof ledger, file, sizeof file, out, sizeof out, &accepted, &work));
     print_output(out);
+    print_work(work);
 }
 
 int main(void)
 {
     uint8_t ledger[LANDFILL_LEDGER_BYTES], first[LANDFILL_RECORD_BYTES], later[2 * LANDFILL_RECORD_BYTES];
     uint8_t out[2 * LANDFILL_RECORD_BYTES], answer[LANDFILL_ANSWER_BYTES], refusal;
-    uint64_t accepted;
+    uint64_t accepted, work;
     uint32_t kg;
 
     /* The first year: an unmanaged deep site in a temperate wet climate, a fifth of its gas captured. */
@@ -161,9 +169,10 @@ int main(void)
     year.period = 4;
     landfill_put_record(later + LANDFILL_RECORD_BYTES, &year);
 
-    refusal = landfill_run(ledger, sizeof ledger, later, sizeof later, out, sizeof out, &accepted);
+    refusal = landfill_run(ledger, sizeof ledger, later, sizeof later, out, sizeof out, &accepted, &work);
     for (uint64_t i = 0; i < accepted; i++) print_output(out + LANDFILL_RECORD_BYTES * i);
     if (refusal != LANDFILL_ACCEPTED) say("the record after these", refusal);
+    print_work(work); /* the second year has old paper and food; the refused record adds nothing */
 
     /* The refused record has left the ledger as it was. */
     print_ledger(ledger, sizeof ledger);

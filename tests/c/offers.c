@@ -27,7 +27,7 @@ static void take(const struct entries *it, struct side *s)
 static void run(const struct entries *it, struct side *s)
 {
     s->answer = it->run(at(s, LEDGER), length_of(LEDGER), at(s, RECORDS), length_of(RECORDS), at(s, OUT), length_of(OUT),
-                        &s->numbers.whole[1]);
+                        &s->numbers.whole[1], &s->numbers.whole[3]);
 }
 
 static void listing(const struct entries *it, struct side *s)

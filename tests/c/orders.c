@@ -96,13 +96,13 @@ static void bring_back(const uint8_t *order, size_t count)
 {
     static uint8_t old[MOST * BYTES], report[MOST];
     uint8_t inverse[TYPES];
-    uint64_t changed = number_left();
+    uint64_t changed = number_left(1);
     memcpy(report, left(REPORT), count);
     memcpy(old, file, BYTES * count);
     memcpy(file, left(OUT), BYTES * count);
     landfill_invert(order, inverse);
     offer_records(inverse, count);
-    hold("the number of changes by the inverse order", number_left(), changed);
+    hold("the number of changes by the inverse order", number_left(1), changed);
     hold_bytes("a byte of the file by the inverse order", left(OUT), old, BYTES * count);
     hold_bytes("a byte of the report by the inverse order", left(REPORT), report, count);
 }
@@ -150,7 +150,7 @@ static void all_by_hand(void)
         offer_records(ROWS[i].order, 1);
         for (int p = 0; p < TYPES; p++) hold("a mass put right", mass_left(p), ROWS[i].after[p]);
         hold("the report of a record", left(REPORT)[0], ROWS[i].report);
-        hold("the number of changes", number_left(), ROWS[i].changed);
+        hold("the number of changes", number_left(1), ROWS[i].changed);
     }
 }
 
@@ -166,7 +166,7 @@ static void all_bits(void)
                 memcpy(mass(file, one), mass(file, other), 4);
                 if (bit < 32) flip(mass(file, one), bit);
                 offer_records(order, 1);
-                hold("the number of changes", number_left(), bit < 32 ? 2 : 0);
+                hold("the number of changes", number_left(1), bit < 32 ? 2 : 0);
             }
 }
 

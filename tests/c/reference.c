@@ -272,9 +272,11 @@ void reference_accept(struct reference_ledger *ledger, const uint8_t *record, ui
     ledger->n += 1;
     ledger->kind = (uint8_t)it.kind;
     ledger->climate = (uint8_t)it.climate;
+    answer->work = 0;
     for (int t = 0; t < TYPES; t++) {
         uint64_t deposit = it.mass[t] * DOC_of(&it, t) * 100;
         uint32_t D = reference_entry(ledger->kind, RATES[t][ledger->climate - 1]);
+        if (ledger->R[t] + deposit > 0) answer->work++;
         answer->releases[t] = decay(&ledger->T[t], &ledger->R[t], deposit, D);
         ledger->released[t] += answer->releases[t];
     }

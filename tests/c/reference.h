@@ -18,9 +18,10 @@ struct reference_ledger {
     uint64_t T[8], R[8], released[8];
 };
 
-/* The eight releases and x0 in mg, figure and bound in grams CO2e. */
+/* The eight releases and x0 in mg, figure and bound in grams CO2e; and the record's decay work, the number of types that had
+ * carbon before they decayed. */
 struct reference_answer {
-    uint64_t releases[8], x0, figure, bound;
+    uint64_t releases[8], x0, figure, bound, work;
 };
 
 /* Works the decay table out; to be called once, before all else. */
@@ -40,7 +41,7 @@ uint8_t reference_fresh(uint8_t *ledger, size_t ledger_len);
 uint8_t reference_take(uint8_t *ledger, size_t ledger_len, const uint8_t *record, size_t record_len, uint8_t *out,
                        size_t out_len, uint8_t *answer, size_t answer_len);
 uint8_t reference_run(uint8_t *ledger, size_t ledger_len, const uint8_t *records, size_t records_len, uint8_t *out,
-                      size_t out_len, uint64_t *accepted);
+                      size_t out_len, uint64_t *accepted, uint64_t *work);
 uint8_t reference_totals(const uint8_t *ledger, size_t ledger_len, uint64_t *stock, uint64_t *brought,
                          uint64_t *released);
 uint32_t reference_entry(uint8_t kind, uint16_t rate);

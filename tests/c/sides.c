@@ -55,9 +55,14 @@ const uint8_t *left(enum place place)
     return at(&library, place);
 }
 
-uint64_t number_left(void)
+uint64_t number_left(int which)
 {
-    return library.numbers.whole[1];
+    return library.numbers.whole[2 * which - 1];
+}
+
+uint64_t answer_left(void)
+{
+    return library.answer;
 }
 
 uint64_t calls(void)

@@ -37,7 +37,7 @@ struct given {
 struct entries {
     uint8_t (*fresh)(uint8_t *, size_t);
     uint8_t (*take)(uint8_t *, size_t, const uint8_t *, size_t, uint8_t *, size_t, uint8_t *, size_t);
-    uint8_t (*run)(uint8_t *, size_t, const uint8_t *, size_t, uint8_t *, size_t, uint64_t *);
+    uint8_t (*run)(uint8_t *, size_t, const uint8_t *, size_t, uint8_t *, size_t, uint64_t *, uint64_t *);
     uint8_t (*totals)(const uint8_t *, size_t, uint64_t *, uint64_t *, uint64_t *);
     uint32_t (*entry)(uint8_t, uint16_t);
     uint8_t (*cell)(uint8_t, double, uint32_t *);
@@ -56,12 +56,13 @@ extern struct given given;
 /* Lends a buffer of so many random bytes for the next call, and gives its bytes to be filled. */
 uint8_t *lend(enum place place, size_t length);
 
-/* A lent buffer's bytes as one side has them, its length, and its bytes after the last call; the first whole number that the
- * last call has written. */
+/* A lent buffer's bytes as one side has them, its length, and its bytes after the last call; the first, second or third whole
+ * number that the last call has written, and what it answered. */
 uint8_t *at(struct side *side, enum place place);
 size_t length_of(enum place place);
 const uint8_t *left(enum place place);
-uint64_t number_left(void);
+uint64_t number_left(int which);
+uint64_t answer_left(void);
 
 /* Makes the call on both sides and compares; prints the difference in full and ends the program where there is one.
  * After it no buffer is lent. */

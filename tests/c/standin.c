@@ -19,9 +19,9 @@ uint8_t landfill_take(uint8_t *ledger, size_t ledger_len, const uint8_t *record,
 }
 
 uint8_t landfill_run(uint8_t *ledger, size_t ledger_len, const uint8_t *records, size_t records_len, uint8_t *out,
-                     size_t out_len, uint64_t *accepted)
+                     size_t out_len, uint64_t *accepted, uint64_t *work)
 {
-    return reference_run(ledger, ledger_len, records, records_len, out, out_len, accepted);
+    return reference_run(ledger, ledger_len, records, records_len, out, out_len, accepted, work);
 }
 
 uint8_t landfill_totals(const uint8_t *ledger, size_t ledger_len, uint64_t *stock, uint64_t *brought,

@@ -3,7 +3,7 @@
 ghost use mathlib.Core.Path.{_≡_};
 ghost use lib.ListN.{length};
 ghost use Rattle.ledger.specs.Take.{takeOf, writtenOf};
-ghost use Rattle.run.specs.History.{outOf};
+ghost use Rattle.run.specs.History.{outOf, workOver};
 ghost use Rattle.calls.specs.Calls.{answered, roomOf, takeHere, takeImage, takeOut, takeAnswer, runHere, runImage};
 use ledger::Answer;
 use ledger::Ledger;
@@ -77,15 +77,23 @@ pub fn take(image: &mut [u8], record: &[u8], out: &mut [u8], answer: &mut [u8]) 
 }
 
 // Takes the records of a file one after another, writes an output record for each accepted one, and leaves the image of the
-// ledger after the last of them; answers the refusal of the next one, 0 if none.
-pub fn run(image: &mut [u8], records: &[u8], out: &mut [u8], accepted: &mut u64) -> u8
+// ledger after the last of them; answers the refusal of the next one, 0 if none, how many were accepted, and their decay work.
+pub fn run(
+    image: &mut [u8],
+    records: &[u8],
+    out: &mut [u8],
+    accepted: &mut u64,
+    work: &mut u64,
+) -> u8
     ensures { λ r. ⌜ r ≡ runHere (now (image .entry)) (now (records .entry)) (length (now (out .entry))) .refusal ⌝ }
     ensures { λ _. ⌜ now (image .exit) ≡ runImage (now (image .entry)) (runHere (now (image .entry)) (now (records .entry)) (length (now (out .entry)))) ⌝ }
     ensures { λ _. ⌜ now (out .exit) ≡ outOf (runHere (now (image .entry)) (now (records .entry)) (length (now (out .entry)))) (now (out .entry)) ⌝ }
     ensures { λ _. ⌜ now (accepted .exit) ≡ length (runHere (now (image .entry)) (now (records .entry)) (length (now (out .entry))) .accepted) ⌝ }
+    ensures { λ _. ⌜ now (work .exit) ≡ workOver (runHere (now (image .entry)) (now (records .entry)) (length (now (out .entry))) .accepted) ⌝ }
 {
     let end = run::run(image::read(image), records, out);
     *accepted = end.accepted;
+    *work = end.work;
     if end.accepted > 0 {
         image::write(image, end.ledger);
     }

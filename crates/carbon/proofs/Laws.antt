@@ -21,10 +21,14 @@ pub entry-small : (kind climate t : ℕ) → entryAt kind climate t < 10 ^ 9
 unfolding entryAt
 entry-small kind climate t = entry-below kind _
 
--- What is left is at most what was held.
+-- What is left is at most what was held, and less where anything was.
 pub left-most : (H D : ℕ) → D < 10 ^ 9 → leftOf H D ≤ H
 unfolding leftOf
 left-most H D h = omega (arith, mul-le-mul-left H h)
+
+pub left-less : (H D : ℕ) → D < 10 ^ 9 → 0 < H → leftOf H D < H
+unfolding leftOf
+left-less H D h some = omega (arith, mul-le-mul-left H h)
 
 -- A sum of eight small numbers is in 64 bits what it is.
 pub sum-fits : (f : ℕ → ℕ) → ((t : ℕ) → t < 8 → f t ≤ mostBrought) → sumOf f 8 % 2 ^ 64 ≡ sumOf f 8

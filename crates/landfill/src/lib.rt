@@ -7,7 +7,7 @@ ghost use lib.ListN.{length};
 ghost use Rattle.door.specs.Point.{chartedOf};
 ghost use Rattle.decay.specs.Series.{entryOf};
 ghost use Rattle.door.specs.Cell.{answerTo};
-ghost use Rattle.run.specs.History.{outOf};
+ghost use Rattle.run.specs.History.{outOf, workOver};
 ghost use Rattle.ledger.specs.Take.{totalsOf};
 ghost use Rattle.image.specs.Image.{imageBytes, freshLeft, ledgerOf};
 ghost use Rattle.samples.specs.Samples.{sortedOf};
@@ -58,20 +58,22 @@ pub extern "C" fn landfill_take(
 }
 
 // Takes the records of a file one after another, writes an output record for each accepted one, and leaves the image of the
-// ledger after the last of them; answers the refusal of the next one, 0 if none.
+// ledger after the last of them; answers the refusal of the next one, 0 if none, how many were accepted, and their decay work.
 #[no_mangle]
 pub extern "C" fn landfill_run(
     ledger: &mut [u8],
     records: &[u8],
     out: &mut [u8],
     accepted: &mut u64,
+    work: &mut u64,
 ) -> u8
     ensures { λ r. ⌜ r ≡ runHere (now (ledger .entry)) (now (records .entry)) (length (now (out .entry))) .refusal ⌝ }
     ensures { λ _. ⌜ now (ledger .exit) ≡ runImage (now (ledger .entry)) (runHere (now (ledger .entry)) (now (records .entry)) (length (now (out .entry)))) ⌝ }
     ensures { λ _. ⌜ now (out .exit) ≡ outOf (runHere (now (ledger .entry)) (now (records .entry)) (length (now (out .entry)))) (now (out .entry)) ⌝ }
     ensures { λ _. ⌜ now (accepted .exit) ≡ length (runHere (now (ledger .entry)) (now (records .entry)) (length (now (out .entry))) .accepted) ⌝ }
+    ensures { λ _. ⌜ now (work .exit) ≡ workOver (runHere (now (ledger .entry)) (now (records .entry)) (length (now (out .entry))) .accepted) ⌝ }
 {
-    calls::run(ledger, records, out, accepted)
+    calls::run(ledger, records, out, accepted, work)
 }
 
 // Answers 0 and the carbon left, brought in and released so far over all types, in mg; an unsound ledger gives 3 and zeros.

@@ -95,9 +95,13 @@ module _ (l : Ledger) (bytes : List ℕ) (a : Accepted l bytes) (t : ℕ) (h : t
   unfolding newBrought ceilingOf
   new-within = omega (arith, deposit-within bytes t (a .light-each t h) (a .dry), a .ledger .at t h .ceiling)
 
+  pub held-most : held l bytes t ≤ newBrought l bytes t
+  unfolding held newBrought
+  held-most = omega (arith, a .ledger .at t h .kept)
+
   pub release-most : release l bytes t ≤ newBrought l bytes t
-  unfolding release held newBrought
-  release-most = omega (arith, a .ledger .at t h .kept)
+  unfolding release
+  release-most = omega (arith, held-most)
 
   pub new-parted : newReleased l bytes t + newStock l bytes t ≡ newBrought l bytes t
   unfolding newReleased release newStock held newBrought
@@ -105,9 +109,10 @@ module _ (l : Ledger) (bytes : List ℕ) (a : Accepted l bytes) (t : ℕ) (h : t
       let D = entryAt (kindOf bytes) (climateOf bytes) t in
       omega (arith, a .ledger .at t h .parted, left-most (held l bytes t) D (entry-small (kindOf bytes) (climateOf bytes) t))
 
--- Inert waste, type 6, has a ceiling of 0, and so T, R and G of 0.
+-- Inert waste, type 6, has a ceiling of 0, and so T, H, R and G of 0.
 pub record NoneAt (l : Ledger) (bytes : List ℕ) (t : ℕ) : Type 0 where
   pub T : newBrought l bytes t ≡ 0
+  pub H : held l bytes t ≡ 0
   pub R : newStock l bytes t ≡ 0
   pub G : release l bytes t ≡ 0
 
@@ -115,7 +120,7 @@ pub no-carbon : (l : Ledger) (bytes : List ℕ) → Accepted l bytes → NoneAt 
 unfolding ceilingOf carbonOf
 no-carbon l bytes a =
     let T : newBrought l bytes 5 ≡ 0 = omega (arith, new-within l bytes a 5 (omega arith)) in
-    record { T = T; R = omega (arith, new-parted l bytes a 5 (omega arith)); G = omega (arith, release-most l bytes a 5 (omega arith)) }
+    record { T = T; H = omega (arith, held-most l bytes a 5 (omega arith)); R = omega (arith, new-parted l bytes a 5 (omega arith)); G = omega (arith, release-most l bytes a 5 (omega arith)) }
 
 -- A sound ledger that takes a record is sound again.
 pub stays-sound : (l : Ledger) (bytes : List ℕ) → Accepted l bytes → sound (after l bytes) ≡ true

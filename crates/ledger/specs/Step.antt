@@ -1,9 +1,10 @@
 -- Document 01, 'One step': one type in one period, once over the kind; and document 02, request b: what each type has released so
--- far, and request c: what is remembered of the year. Place t has type t + 1; all carbon is in whole milligrams.
+-- far, request c: what is remembered of the year, and request h: the decay work. Place t has type t + 1; all carbon is in whole milligrams.
 use mathlib.Core.List.{List}
 use Prim.Native.Nat.{ℕ, _+_, _-_}
+use lib.Dec.{ltb}
 use lib.ListN.{getD}
-use Rattle.numbers.specs.Eight.{eight, sumOf}
+use Rattle.numbers.specs.Eight.{eight, one, sumOf}
 use Rattle.record.specs.Fields.{kindOf, climateOf, depositOf}
 use Rattle.carbon.specs.Carbon.{entryAt, leftOf}
 use Rattle.year_factors.specs.YearFactors.{noYear, remembered}
@@ -47,17 +48,27 @@ module _ (l : Ledger) (bytes : List ℕ) (t : ℕ) where
   unfoldable pub newReleased : ℕ
   newReleased = releasedAt l t + release
 
+  -- decay work: 'one for every .. type whose stock with deposit is above zero before decay, none for the others'.
+  unfoldable pub work : ℕ
+  work = one (ltb 0 held)
+
 -- What place t then has.
 unfoldable pub decayedAt : Ledger → List ℕ → (t : ℕ) → Decayed
-decayedAt l bytes t = record { brought = newBrought l bytes t; stock = newStock l bytes t; release = release l bytes t }
+decayedAt l bytes t =
+    record { brought = newBrought l bytes t; stock = newStock l bytes t; release = release l bytes t; work = work l bytes t }
 
 -- x0 = the eight releases added.
 unfoldable pub x0Of : Ledger → List ℕ → ℕ
 x0Of l bytes = sumOf (release l bytes) 8
 
+-- The decay work of a record, over the eight types.
+unfoldable pub workOf : Ledger → List ℕ → ℕ
+workOf l bytes = sumOf (work l bytes) 8
+
 -- What all of them have.
 unfoldable pub periodOfAll : Ledger → List ℕ → Period
-periodOfAll l bytes = record { brought = eight (newBrought l bytes); stock = eight (newStock l bytes); x0 = x0Of l bytes }
+periodOfAll l bytes =
+    record { brought = eight (newBrought l bytes); stock = eight (newStock l bytes); x0 = x0Of l bytes; work = workOf l bytes }
 
 -- n grows by one, kind and climate become the record's.
 unfoldable pub after : Ledger → List ℕ → Ledger

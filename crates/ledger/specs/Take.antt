@@ -9,7 +9,7 @@ use Rattle.record.specs.Fields.{recordBytes, factorsOf}
 use Rattle.figure.specs.Figure.{figureOf, BOf, boundOf}
 use Rattle.output.specs.Output.{outputOf}
 use Rattle.output.specs.declared.Output.{Output}
-use Rattle.ledger.specs.Step.{broughtAt, stockAt, releasedAt, release, x0Of, after}
+use Rattle.ledger.specs.Step.{broughtAt, stockAt, releasedAt, release, x0Of, workOf, after}
 use Rattle.ledger.specs.Refusal.{refusalOf, sound}
 use Rattle.ledger.specs.declared.book.Ledger.{Ledger}
 use Rattle.ledger.specs.declared.answer.Answer.{Answer}
@@ -60,9 +60,9 @@ outputFields a =
       brought = totalBrought (a .ledger);
     }
 
--- An accepted record entered: the ledger after it, and what its output record says.
-unfoldable pub enteredOf : Answer → Entered
-enteredOf a = record { ledger = a .ledger; says = outputFields a }
+-- An accepted record entered: the ledger after it, what its output record says, and its decay work.
+unfoldable pub enteredOf : Ledger → List ℕ → Entered
+enteredOf l bytes = record { ledger = after l bytes; says = outputFields (acceptedOf l bytes); work = workOf l bytes }
 
 unfoldable pub outputRecord : Answer → List ℕ
 outputRecord a = outputOf (outputFields a)

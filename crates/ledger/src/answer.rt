@@ -13,10 +13,11 @@ pub struct Answer {
     pub bound: u64,
 }
 
-// The ledger after an accepted record, and what its output record says.
+// The ledger after an accepted record, what its output record says, and the record's decay work.
 pub struct Entered {
     pub ledger: Ledger,
     pub says: Output,
+    pub work: u64,
 }
 
 // The refusal (3 for an unsound ledger, else 0), and the carbon left, brought in and released so far over all types, in mg.

@@ -18,6 +18,7 @@ use crate::answer::Entered;
 use crate::answer::Totals;
 use crate::period::Decayed;
 use crate::period::Period;
+use crate::period::decay_work;
 use year_factors::YearFactors;
 
 // One site's ledger: the number n of accepted records, their kind and climate, what a monthly one remembers of its year, and for each
@@ -118,6 +119,7 @@ impl Ledger {
             brought: self.brought[t] + deposit,
             stock: left,
             release: held - left,
+            work: decay_work(held),
         }
     }
 
@@ -159,15 +161,16 @@ impl Ledger {
                 h.stock,
             ],
             x0: early + later,
+            work: a.work + b.work + c.work + d.work + e.work + g.work + h.work,
         }
     }
 
-    // Enters an accepted record: answers the ledger after it and what its output record says, and writes that at the start of the
-    // output. With the record's release added, what was released is again all that is gone of T.
+    // Enters an accepted record: answers the ledger after it, what its output record says and its decay work, and writes the output
+    // record at the start of the output. `released` stays equal to T − R.
     pub fn enter(self, entries: [u32; 8], bytes: &[u8], out: &mut [u8]) -> Entered
         requires { ⌜ refusalOf self (now bytes) (length (now out)) ≡ 0 ⌝ }
         requires { ⌜ entries ≡ eight (entryAt (kindOf (now bytes)) (climateOf (now bytes))) ⌝ }
-        ensures { λ r. ⌜ r ≡ enteredOf (acceptedOf self (now (bytes .entry))) ⌝ }
+        ensures { λ r. ⌜ r ≡ enteredOf self (now (bytes .entry)) ⌝ }
         ensures { λ _. ⌜ now (out .exit) ≡ outputRecord (acceptedOf self (now (bytes .entry))) ++ drop recordBytes (now (out .entry)) ⌝ }
     {
         let all = self.decay_all(entries, bytes);
@@ -187,7 +190,11 @@ impl Ledger {
             stock,
             released,
         };
-        Entered { ledger, says }
+        Entered {
+            ledger,
+            says,
+            work: all.work,
+        }
     }
 
     // Answers that a record is refused by a number; the ledger comes back as it is.

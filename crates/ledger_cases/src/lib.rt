@@ -74,8 +74,7 @@ pub fn step(payload: &[u8])
 // Prints the numbers of a run's answer with a space after each.
 fn put_outcome(outcome: Outcome) {
     let ledger = outcome.ledger;
-    print::number(outcome.accepted, b' ');
-    print::number(outcome.refusal as u64, b' ');
+    print::three(outcome.accepted, outcome.refusal as u64, outcome.work);
     put_ledger(ledger);
 }
 

@@ -46,6 +46,11 @@ sum-part f j (suc k) h =
 pub sum-none : (f : ℕ → ℕ) (k : ℕ) → sumOf f k ≡ 0 → (t : ℕ) → t < k → f t ≡ 0
 sum-none f k e t l = omega (arith, sum-part f (suc t) k l)
 
+-- The first number of a sum beside the others.
+pub sum-first : (f : ℕ → ℕ) (k : ℕ) → sumOf f (suc k) ≡ f 0 + sumOf (λ t. f (suc t)) k
+sum-first f zero = omega arith
+sum-first f (suc k) = omega (arith, sum-first f k)
+
 -- A sum of sums, and a sum of steps from each number to the next.
 pub sum-plus : (f g : ℕ → ℕ) (k : ℕ) → sumOf (λ t. f t + g t) k ≡ sumOf f k + sumOf g k
 sum-plus f g zero = refl

@@ -75,4 +75,5 @@ whole-run l file out =
           };
       stops = f .stop;
       output-after = rw (f .offered, outputs-length (runOver l file out .accepted));
+      worked = rw (f .offered);
     }

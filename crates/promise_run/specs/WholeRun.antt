@@ -6,7 +6,7 @@ use Prim.Native.Nat.{ℕ, _-_, _*_, _<_}
 use lib.ListN.{length, getD, take, drop}
 use Rattle.record.specs.Fields.{recordBytes}
 use Rattle.ledger.specs.Take.{takeOf}
-use Rattle.run.specs.History.{outputs, recordsOf, inTurn, Run, runOf}
+use Rattle.run.specs.History.{outputs, workOver, recordsOf, inTurn, Run, runOf}
 use Rattle.ledger.specs.declared.book.Ledger.{Ledger}
 use Rattle.ledger.specs.declared.answer.Answer.{Answer}
 use Rattle.run.specs.declared.Outcome.{Outcome}
@@ -41,8 +41,10 @@ abbrev pub runOver : Ledger → (file out : List ℕ) → Run
 runOver l file out = runOf l (recordsOf file) (length out)
 
 -- So of a file and an output, and what is left in the output: output record i starts at 48 × (i − 1), and the rest keeps its value.
+-- The decay work is that of the leading records.
 pub record WholeRun (l : Ledger) (file out : List ℕ) (answer : Outcome) (left : List ℕ) : Type 0 where
   pub begins : LeadingAccepted l (recordsOf file) (length out) answer
   pub stops : LeadingEnds (recordsOf file) (length out) answer
   pub output-after : left ≡ outputs (leadingOffered l (recordsOf file) (length out) answer .accepted)
       ++ drop (recordBytes * answer .accepted) out
+  pub worked : answer .work ≡ workOver (leadingOffered l (recordsOf file) (length out) answer .accepted)

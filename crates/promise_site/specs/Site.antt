@@ -28,7 +28,7 @@ module _ (image : List ℕ) where
 
   -- and the accepted ones, with what it answers to them.
   unfoldable pub acceptedBy : Call → List Turn
-  acceptedBy (takes bytes out answer) = accepted (record { bytes = bytes; answer = takeHere image bytes out answer } ∷ [])
+  acceptedBy (takes bytes out answer) = accepted (record { before = ledgerOf image; bytes = bytes; answer = takeHere image bytes out answer } ∷ [])
   acceptedBy (runs file out) = runHere image file (length out) .accepted
 
 -- Of calls one after another, each on the image that the one before it left.

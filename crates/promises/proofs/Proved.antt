@@ -10,6 +10,7 @@ use Rattle.promise_months.proofs.Proved.{months-promise}
 use Rattle.promise_uncertainty.proofs.Proved.{uncertainty-promise}
 use Rattle.promise_sludge.proofs.Proved.{sludge-promise}
 use Rattle.promise_order.proofs.Proved.{order-promise}
+use Rattle.promise_work.proofs.Proved.{work-promise}
 
 pub promises : Promises
 promises =
@@ -24,4 +25,5 @@ promises =
       factor-from-uncertainties = uncertainty-promise;
       measured-sludge = sludge-promise;
       shuffled-files = order-promise;
+      decay-work = work-promise;
     }

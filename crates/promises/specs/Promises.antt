@@ -10,6 +10,7 @@ use Rattle.promise_months.specs.Promise.{MonthsPromise}
 use Rattle.promise_uncertainty.specs.Promise.{UncertaintyPromise}
 use Rattle.promise_sludge.specs.Promise.{SludgePromise}
 use Rattle.promise_order.specs.Promise.{OrderPromise}
+use Rattle.promise_work.specs.Promise.{WorkPromise}
 
 pub record Promises : Type 0 where
   -- Demand 3, and request b of document 02: released carbon.
@@ -32,3 +33,5 @@ pub record Promises : Type 0 where
   pub measured-sludge : SludgePromise
   -- Document 02, request g: shuffled files put right.
   pub shuffled-files : OrderPromise
+  -- Document 02, request h: how much decay work a run did.
+  pub decay-work : WorkPromise

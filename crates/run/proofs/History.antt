@@ -12,10 +12,11 @@ use Rattle.carbon.specs.Carbon.{mostRecords}
 use Rattle.ledger.specs.Step.{after}
 use Rattle.ledger.specs.Refusal.{refusalOf}
 use Rattle.ledger.specs.Take.{acceptedOf, takeOf, outputRecord}
-use Rattle.run.specs.History.{Turn, turnOf, turns, ledgerAfter, leading, ending, outputs, cut, recordsBegun, recordsOf, inTurn, Run, runOf}
+use Rattle.run.specs.History.{Turn, turnOf, turns, ledgerAfter, leading, ending, outputs, workOver, cut, recordsBegun, recordsOf, inTurn, Run, runOf}
 use Rattle.ledger.specs.declared.book.Ledger.{Ledger}
 use Rattle.ledger.proofs.Take.{taken, take-refusal, output-length}
 use Rattle.ledger.proofs.Accepted.{accepted-meets, room-alike}
+use Rattle.ledger.proofs.Settle.{work-small}
 
 -- A file of no bytes has no records, and any other has a first record and the records of the rest.
 pub no-records : (file : List ℕ) → length file ≡ 0 → recordsOf file ≡ []
@@ -66,7 +67,7 @@ abbrev pub onFrom : List Turn → Run → Run
 onFrom done r = record { ledger = r .ledger; accepted = done ++ r .accepted; refusal = r .refusal }
 
 abbrev pub acceptedTurn : Ledger → List ℕ → Turn
-acceptedTurn l bytes = record { bytes = bytes; answer = acceptedOf l bytes }
+acceptedTurn l bytes = record { before = l; bytes = bytes; answer = acceptedOf l bytes }
 
 -- what the turn at the head of a run decides
 module _ (l : Ledger) (turn : Turn) (rest : List Turn) where
@@ -172,6 +173,17 @@ run-roomy l (bytes ∷ xs) room more h k =
           ∙ sym (run-goes-on l bytes xs more (sym same ∙ e))
       | no e ↦ run-stops l bytes xs room (refusalOf l bytes room) refl e ∙ sym (run-stops l bytes xs more (refusalOf l bytes room) (sym same) e)
     ]
+
+-- The decay work of some records is at most 8 each, and adds up over stretches.
+pub over-most : (done : List Turn) → workOver done ≤ 8 * length done
+unfolding workOver
+over-most [] = omega arith
+over-most (turn ∷ rest) = omega (arith, work-small (turn .before) (turn .bytes), over-most rest)
+
+pub work-join : (done more : List Turn) → workOver (done ++ more) ≡ workOver done + workOver more
+unfolding workOver
+work-join [] more = omega arith
+work-join (turn ∷ rest) more = omega (arith, work-join rest more)
 
 -- Output records are 48 bytes each, and follow one another.
 pub outputs-length : (done : List Turn) → length (outputs done) ≡ recordBytes * length done

@@ -11,20 +11,21 @@ use lib.ListN.{length, take, drop, length-drop, length-append, length-take, take
 use lib.Seq.{length-take-le, take-at, drop-at, drop-drop}
 use Rattle.numbers.specs.Eight.{eight, everyOf}
 use Rattle.numbers.proofs.Eight.{every-not, every-each}
+use Rattle.numbers.proofs.Lists.{added-more}
 use Rattle.record.specs.Fields.{recordBytes, kindOf, climateOf}
 use Rattle.record.specs.Ranges.{light}
 use Rattle.carbon.specs.Carbon.{entryAt}
 use Rattle.refusal.specs.Refusal.{faultsOf}
-use Rattle.ledger.specs.Step.{releasedAt, after}
+use Rattle.ledger.specs.Step.{releasedAt, workOf, after}
 use Rattle.ledger.specs.Refusal.{sound, refusalOf}
 use Rattle.ledger.specs.Take.{acceptedOf, outputRecord}
 use Rattle.refusal.specs.Reach.{reachOf, leftOver}
-use Rattle.run.specs.History.{Turn, outputs, recordsOf, runOf, outcomeOf, outOf}
+use Rattle.run.specs.History.{Turn, outputs, workOver, recordsOf, runOf, outcomeOf, outOf}
 use Rattle.ledger.specs.declared.book.Ledger.{Ledger}
 use Rattle.refusal.proofs.Laws.{earlyOf, first-early, first-late}
 use Rattle.ledger.proofs.Accepted.{accepted-meets, was-sound, has-room, accepted-sound, room-alike}
 use Rattle.ledger.proofs.Take.{output-length}
-use Rattle.run.proofs.History.{no-records, first-record, stopped, onFrom, acceptedTurn, run-goes-on, run-stops, run-ends, on-from, outputs-length, outputs-join}
+use Rattle.run.proofs.History.{no-records, first-record, stopped, onFrom, acceptedTurn, run-goes-on, run-stops, run-ends, on-from, outputs-length, outputs-join, over-most}
 
 -- The refusal that everything before the masses decides.
 abbrev pub early : Ledger → List ℕ → (room : ℕ) → Bool → ℕ
@@ -43,7 +44,7 @@ module _ (l : Ledger) (bytes : List ℕ) (room : ℕ) where
 abbrev pub Fit : List ℕ → Ledger → List ℕ → Type 0
 Fit entries l bytes = refusalOf l bytes 48 ≡ 0 → entries ≡ eight (entryAt (kindOf bytes) (climateOf bytes))
 
-pub record MidRun (l₀ : Ledger) (file out₀ entries : List ℕ) (good : Bool) (out : List ℕ) (l : Ledger) (at : ℕ) : Type 0 where
+pub record MidRun (l₀ : Ledger) (file out₀ entries : List ℕ) (good : Bool) (out : List ℕ) (l : Ledger) (at work : ℕ) : Type 0 where
   pub flag : good ≡ sound l
   pub fit : Fit entries l (take 48 (drop at file))
   pub in-file : at ≤ length file
@@ -53,13 +54,14 @@ pub record MidRun (l₀ : Ledger) (file out₀ entries : List ℕ) (good : Bool)
   pub done : List Turn
   pub counted : at ≡ recordBytes * length done
   pub grown : l .n ≡ l₀ .n + length done
+  pub worked : work ≡ workOver done
   pub begun : at ≡ 0 → l ≡ l₀
   pub held-to : 0 < at → (sound l ≡ true) × (l .released ≡ eight (releasedAt l))
   pub put-out : take at out ≡ outputs done
   pub so-far : runOf l₀ (recordsOf file) (length out₀) ≡ onFrom done (runOf l (recordsOf (drop at file)) (length out - at))
 
-pub run-starts : (l : Ledger) (file out entries : List ℕ) (good : Bool) → good ≡ sound l → Fit entries l (take 48 file) → MidRun l file out entries good out l 0
-unfolding outputs
+pub run-starts : (l : Ledger) (file out entries : List ℕ) (good : Bool) → good ≡ sound l → Fit entries l (take 48 file) → MidRun l file out entries good out l 0 0
+unfolding outputs workOver
 run-starts l file out entries good flag fit =
     record {
       flag = flag;
@@ -71,6 +73,7 @@ run-starts l file out entries good flag fit =
       done = [];
       counted = omega arith;
       grown = omega arith;
+      worked = refl;
       begun = λ z. refl;
       held-to = λ some. absurd (omega arith);
       put-out = refl;
@@ -111,8 +114,8 @@ full-room : (records room : ℕ) {at : ℕ} (test : Bool) → at ≡ cond test r
 full-room records room true e h = absurd (omega arith)
 full-room records room false e h = omega arith
 
-module _ {l₀ : Ledger} {file out₀ entries : List ℕ} {good : Bool} {out : List ℕ} {l : Ledger} {at : ℕ}
-    (h : MidRun l₀ file out₀ entries good out l at) where
+module _ {l₀ : Ledger} {file out₀ entries : List ℕ} {good : Bool} {out : List ℕ} {l : Ledger} {at work : ℕ}
+    (h : MidRun l₀ file out₀ entries good out l at work) where
   abbrev pub here : List ℕ
   here = take 48 (drop at file)
 
@@ -122,7 +125,7 @@ module _ {l₀ : Ledger} {file out₀ entries : List ℕ} {good : Bool} {out : L
   -- what the run then answers, and what it leaves in the output
   abbrev pub Ends : ℕ → Type 0
   Ends q =
-      (record { ledger = l; accepted = l .n - l₀ .n; refusal = q } ≡ outcomeOf (runOf l₀ (recordsOf file) (length out₀)))
+      (record { ledger = l; accepted = l .n - l₀ .n; refusal = q; work = work } ≡ outcomeOf (runOf l₀ (recordsOf file) (length out₀)))
       × (out ≡ outOf (runOf l₀ (recordsOf file) (length out₀)) out₀)
 
   -- what was released can be worked out where a record was accepted, and stays where none was
@@ -139,8 +142,9 @@ module _ {l₀ : Ledger} {file out₀ entries : List ℕ} {good : Bool} {out : L
   ends q e =
       let all : runOf l₀ (recordsOf file) (length out₀) ≡ onFrom (h .done) (stopped l q) = h .so-far ∙ ap (onFrom (h .done)) e in
       let n : length (h .done ++ []) ≡ l .n - l₀ .n = rw append-nil (omega (arith, h .grown)) in
+      let all-work : workOver (h .done ++ []) ≡ work = rw append-nil (sym (h .worked)) in
       let long : length (outputs (h .done)) ≡ at = outputs-length (h .done) ∙ omega (arith, h .counted) in (
-        (λ i. record { ledger = l; accepted = sym n i; refusal = q }) ∙ ap outcomeOf (sym all),
+        (λ i. record { ledger = l; accepted = sym n i; refusal = q; work = sym all-work i }) ∙ ap outcomeOf (sym all),
         rw (all, append-nil, long, ← h .untouched, ← h .put-out) (sym (take-append-drop at out)),
       )
 
@@ -200,11 +204,15 @@ module _ {l₀ : Ledger} {file out₀ entries : List ℕ} {good : Bool} {out : L
     pub no-refusal : ((t : ℕ) → t < 8 → light here t ≡ true) → refusalOf l here recordBytes ≡ 0
     no-refusal each = refused-late l here recordBytes none′ ∙ simp (every-each (light here) 8 each)
 
+  -- the work so far is small
+  pub work-fits : work ≤ at
+  work-fits = omega (arith, h .worked, h .counted, over-most (h .done))
+
   -- an accepted record
   pub turn-on : (out′ : List ℕ) → at < length file → refusalOf l here room ≡ 0
       → out′ ≡ take at out ++ (outputRecord (acceptedOf l here) ++ drop 48 (drop at out))
-      → MidRun l₀ file out₀ entries good out′ (acceptedOf l here .ledger) (at + 48)
-  unfolding outputs acceptedOf after
+      → MidRun l₀ file out₀ entries good out′ (acceptedOf l here .ledger) (at + 48) (work + workOf l here)
+  unfolding outputs acceptedOf after workOver
   turn-on out′ left ok e =
       let o : List ℕ = outputRecord (acceptedOf l here) in
       let w : List ℕ = take at out in
@@ -227,6 +235,7 @@ module _ {l₀ : Ledger} {file out₀ entries : List ℕ} {good : Bool} {out : L
         done = h .done ++ (turn ∷ []);
         counted = omega (arith, h .counted, length-append (h .done) (turn ∷ []));
         grown = omega (arith, h .grown, length-append (h .done) (turn ∷ []));
+        worked = rw (h .worked) (sym (added-more (λ (turn : Turn). workOf (turn .before) (turn .bytes)) (h .done) turn));
         begun = λ z. absurd (omega arith);
         held-to = λ some. (accepted-sound l here a, refl);
         put-out = ap (take (at + 48)) e′ ∙ take-at (w ++ o) (drop 48 (drop at out)) (at + 48) m

@@ -3,13 +3,15 @@ use mathlib.Core.Path.{_≡_, refl, sym, ap, _∙_}
 use mathlib.Core.List.{List, [], _∷_, append-nil}
 use Prim.Native.Nat.{ℕ}
 use native.Mathlib.Decide.{ℕ-discrete}
+use native.Mathlib.Omega.{arith}
 use borrow.Author.Tests.{ne-eqb}
 use lib.ListN.{length}
 use Rattle.record.specs.Fields.{recordBytes}
 use Rattle.refusal.specs.Refusal.{faultsOf}
+use Rattle.ledger.specs.Step.{workOf}
 use Rattle.ledger.specs.Refusal.{refusalOf}
 use Rattle.ledger.specs.Take.{acceptedOf, writtenOf}
-use Rattle.run.specs.History.{outputs, recordsOf, Run, runOf, outcomeOf, outOf}
+use Rattle.run.specs.History.{outputs, workOver, recordsOf, Run, runOf, outcomeOf, outOf}
 use Rattle.ledger.specs.declared.book.Ledger.{Ledger}
 use Rattle.ledger.proofs.Take.{output-length, refused-writes-nothing}
 use Rattle.run.proofs.History.{one-record, stopped, onFrom, acceptedTurn, run-goes-on, run-stops, run-ends}
@@ -44,6 +46,10 @@ module _ (l : Ledger) (bytes out : List ℕ) where
     pub one-ledger : refusalOf l bytes room ≡ 0 → outcomeOf oneRun .ledger ≡ acceptedOf l bytes .ledger
     unfolding outcomeOf
     one-ledger e = ap (λ (r : Run). r .ledger) (one-taken e)
+
+    pub one-work : refusalOf l bytes room ≡ 0 → outcomeOf oneRun .work ≡ workOf l bytes
+    unfolding outcomeOf workOver
+    one-work e = rw (one-taken e) (omega arith)
 
     pub one-written : outOf oneRun out ≡ writtenOf l bytes out
     unfolding outOf outputs writtenOf

@@ -1,11 +1,13 @@
--- Document 01, 'One step', its last paragraph, and demand 3: records taken in turn. Runs, listings and offerings are read off it.
+-- Document 01, 'One step', its last paragraph, and demand 3: records taken in turn; and document 02, request h: the decay work of a run.
+-- Runs, listings and offerings are read off it.
 use mathlib.Core.Bool.{Bool, cond}
 use mathlib.Core.List.{List, [], _∷_, _++_}
 use Prim.Native.Nat.{ℕ, zero, suc, _+_, _-_, _*_, _/_}
 use lib.Dec.{eqb}
 use lib.ListN.{length, take, drop}
+use Rattle.numbers.specs.Lists.{added}
 use Rattle.record.specs.Fields.{recordBytes}
-use Rattle.ledger.specs.Step.{fresh}
+use Rattle.ledger.specs.Step.{fresh, workOf}
 use Rattle.ledger.specs.Take.{takeOf, outputRecord}
 use Rattle.ledger.specs.declared.book.Ledger.{Ledger}
 use Rattle.ledger.specs.declared.answer.Answer.{Answer}
@@ -16,13 +18,14 @@ pub record Offer : Type 0 where
   pub bytes : List ℕ
   pub room : ℕ
 
--- The bytes that were offered, and what the step answered.
+-- The ledger before a record, the bytes that were offered, and what the step answered.
 pub record Turn : Type 0 where
+  pub before : Ledger
   pub bytes : List ℕ
   pub answer : Answer
 
 abbrev pub turnOf : Ledger → Offer → Turn
-turnOf l offer = record { bytes = offer .bytes; answer = takeOf l (offer .bytes) (offer .room) }
+turnOf l offer = record { before = l; bytes = offer .bytes; answer = takeOf l (offer .bytes) (offer .room) }
 
 -- The step, taken on one record after another, each on the ledger that the one before it left.
 unfoldable pub turns : Ledger → List Offer → List Turn
@@ -55,6 +58,10 @@ ending (turn ∷ rest) = cond (isAccepted turn) (ending rest) (turn .answer .ref
 unfoldable pub outputs : List Turn → List ℕ
 outputs [] = []
 outputs (turn ∷ rest) = outputRecord (turn .answer) ++ outputs rest
+
+-- The decay work of some accepted records: that of each, on the ledger before it, added.
+unfoldable pub workOver : List Turn → ℕ
+workOver turns = added (λ (turn : Turn). workOf (turn .before) (turn .bytes)) turns
 
 -- The first k records of a file; the last may be short.
 unfoldable pub cut : ℕ → List ℕ → List (List ℕ)
@@ -89,9 +96,10 @@ runOf l records room =
 unfoldable pub outOf : Run → List ℕ → List ℕ
 outOf r out = outputs (r .accepted) ++ drop (length (outputs (r .accepted))) out
 
--- What the entry answers of a run.
+-- What the entry answers of a run; its decay work is that of the accepted records, 'none for the others'.
 unfoldable pub outcomeOf : Run → Outcome
-outcomeOf r = record { ledger = r .ledger; accepted = length (r .accepted); refusal = r .refusal }
+outcomeOf r =
+    record { ledger = r .ledger; accepted = length (r .accepted); refusal = r .refusal; work = workOver (r .accepted) }
 
 -- A file run from a fresh ledger, with room for every output record.
 unfoldable pub wholeRun : (file : List ℕ) → Run

@@ -1,4 +1,5 @@
-// Whole runs: 'One step' of document 01, its last paragraph. A file of records is taken one after another, from any ledger.
+// Whole runs: 'One step' of document 01, its last paragraph, and request h of document 02. A file of records is taken one after
+// another, from any ledger.
 ghost use mathlib.Core.Bool.{true};
 ghost use mathlib.Core.Path.{_≡_};
 ghost use lib.ListN.{length, take};
@@ -11,11 +12,13 @@ ghost use Rattle.run.specs.History.{recordsOf, runOf, outcomeOf, outOf};
 use ledger::Ledger;
 use ledger::are_sound;
 
-// The ledger after the last accepted record, how many records were accepted, and the refusal of the next one, 0 if none.
+// The ledger after the last accepted record, how many records were accepted, the refusal of the next one, 0 if none, and the decay
+// work of the accepted ones.
 pub struct Outcome {
     pub ledger: Ledger,
     pub accepted: u64,
     pub refusal: u8,
+    pub work: u64,
 }
 
 // How many records were accepted, and the refusal of the next one.
@@ -58,8 +61,8 @@ fn settled(ledger: Ledger, before: [u64; 8], accepted: u64) -> Ledger
     }
 }
 
-// Takes the records of a file one after another, writes the output record of each accepted one behind the last, and stops at
-// the first that is refused; bytes left over that make no record are refused with 1.
+// Takes the records of a file one after another, writes the output record of each accepted one after the last, and stops at
+// the first that is refused; bytes left over that make no record are refused with 1. Also counts the decay work.
 pub fn run(ledger: Ledger, records: &[u8], out: &mut [u8]) -> Outcome
     ensures { λ r. ⌜ r ≡ outcomeOf (runOf ledger (recordsOf (now (records .entry))) (length (now (out .entry)))) ⌝ }
     ensures { λ _. ⌜ now (out .exit) ≡ outOf (runOf ledger (recordsOf (now (records .entry))) (length (now (out .entry)))) (now (out .entry)) ⌝ }
@@ -80,6 +83,7 @@ pub fn run(ledger: Ledger, records: &[u8], out: &mut [u8]) -> Outcome
     let before = ledger.released;
     let mut ledger = ledger;
     let mut at: usize = 0;
+    let mut work: u64 = 0;
     let end = 'records: loop {
         if at >= reach {
             let left = refusal::left_over(records.len() - at);
@@ -106,6 +110,7 @@ pub fn run(ledger: Ledger, records: &[u8], out: &mut [u8]) -> Outcome
         let entered = ledger.enter(entries, bytes, &mut out[at..at + Ledger::BYTES]);
         let next = entered.ledger;
         ledger = next;
+        work += entered.work;
         at += Ledger::BYTES;
     };
     let settled = settled(ledger, before, end.0);
@@ -113,5 +118,6 @@ pub fn run(ledger: Ledger, records: &[u8], out: &mut [u8]) -> Outcome
         ledger: settled,
         accepted: end.0,
         refusal: end.1,
+        work,
     }
 }

@@ -3,7 +3,7 @@ use mathlib.Core.Path.{_≡_, refl, sym, ap, _∙_}
 use mathlib.Core.Bool.{Bool, true, false, cond, _&&_}
 use mathlib.Core.List.{List, [], _++_, append-nil}
 use Prim.Native.Nat.{ℕ, _+_, _-_, _*_, _≤_, _<_}
-use native.Mathlib.Nat.{add-sub-cancel-left}
+use native.Mathlib.Nat.{zero-add, add-zero, add-sub-cancel-left}
 use native.Mathlib.Decide.{decLe, ℕ-discrete}
 use native.Mathlib.Omega.{arith}
 use borrow.Author.Tests.{eqb-true, ltb-true, ltb-false, eq-eqb, ne-eqb}
@@ -15,10 +15,10 @@ use Rattle.record.specs.Fields.{recordBytes}
 use Rattle.carbon.specs.Carbon.{mostRecords}
 use Rattle.ledger.specs.Step.{fresh}
 use Rattle.ledger.specs.declared.book.Ledger.{Ledger}
-use Rattle.run.specs.History.{recordsOf, Run, runOf, outOf, outcomeOf, wholeRun}
+use Rattle.run.specs.History.{workOver, recordsOf, Run, runOf, outOf, outcomeOf, wholeRun}
 use Rattle.stretches.specs.Stretches.{stretchBytes, stretchEnd, stretchRun}
 use Rattle.run.specs.declared.Outcome.{Outcome}
-use Rattle.run.proofs.History.{no-records, records-join, records-count, onFrom, run-ends, run-join, run-refused, run-roomy, Counts, run-counts, run-most, outputs-length}
+use Rattle.run.proofs.History.{no-records, records-join, records-count, onFrom, run-ends, run-join, run-refused, run-roomy, Counts, run-counts, run-most, outputs-length, over-most, work-join}
 
 -- A stretch of a file from a place to its end: 32 records, or what is left.
 pub record Stretch (file : List ℕ) (at end : ℕ) : Type 0 where
@@ -134,20 +134,21 @@ module _ (l : Ledger) (left : List ℕ) (few : l .n ≤ mostRecords) where
       ∙ run-refused l stretch (recordsOf (drop stretchBytes left)) (recordBytes * length (recordsOf left)) (λ z. some (sym (ap (λ (r : Run). r .refusal) same-run) ∙ z))
       ∙ same-run
 
--- How a run from a fresh ledger ends: n counts the accepted records.
-abbrev endOf : Run → Outcome
-endOf r = record { ledger = r .ledger; accepted = r .ledger .n; refusal = r .refusal }
+-- How a run from a fresh ledger ends, after so much decay work: n counts the accepted records.
+abbrev endOf : (work : ℕ) → Run → Outcome
+endOf work r = record { ledger = r .ledger; accepted = r .ledger .n; refusal = r .refusal; work = work + workOver (r .accepted) }
 
 -- The end of the whole is the end of what is left, or that of the record that was refused.
-abbrev restEnd : (refusal : ℕ) → Ledger → List ℕ → Outcome
-restEnd refusal l left = cond (eqb refusal 0) (endOf (restRun l left)) (record { ledger = l; accepted = l .n; refusal = refusal })
+abbrev restEnd : (refusal work : ℕ) → Ledger → List ℕ → Outcome
+restEnd refusal work l left = cond (eqb refusal 0) (endOf work (restRun l left)) (record { ledger = l; accepted = l .n; refusal = refusal; work = work })
 
-pub record MidWhole (file : List ℕ) (l : Ledger) (at refusal : ℕ) : Type 0 where
+pub record MidWhole (file : List ℕ) (l : Ledger) (at refusal work : ℕ) : Type 0 where
   pub few : l .n ≤ mostRecords
   pub in-file : at ≤ length file
-  pub so-far : outcomeOf (wholeRun file) ≡ restEnd refusal l (drop at file)
+  pub worked : work ≤ 8 * l .n
+  pub so-far : outcomeOf (wholeRun file) ≡ restEnd refusal work l (drop at file)
 
-pub whole-starts : (file : List ℕ) → MidWhole file fresh 0 0
+pub whole-starts : (file : List ℕ) → MidWhole file fresh 0 0 0
 unfolding wholeRun outcomeOf fresh
 whole-starts file =
     let c = run-counts fresh (recordsOf file) (recordBytes * length (recordsOf file)) (omega arith) in
@@ -155,30 +156,51 @@ whole-starts file =
     record {
       few = omega arith;
       in-file = omega arith;
-      so-far = λ i. record { ledger = wholeRun file .ledger; accepted = counted i; refusal = wholeRun file .refusal };
+      worked = omega arith;
+      so-far =
+          λ i. record {
+            ledger = wholeRun file .ledger;
+            accepted = counted i;
+            refusal = wholeRun file .refusal;
+            work = sym (zero-add (workOver (wholeRun file .accepted))) i;
+          };
     }
 
-module _ {file : List ℕ} {l : Ledger} {at : ℕ} (h : MidWhole file l at 0) where
-  next-end : let r = stretchRun l (drop at file) in endOf (restRun l (drop at file)) ≡ restEnd (r .refusal) (r .ledger) (drop stretchBytes (drop at file))
+module _ {file : List ℕ} {l : Ledger} {at work : ℕ} (h : MidWhole file l at 0 work) where
+  abbrev done : Run
+  done = stretchRun l (drop at file)
+
+  next-end : endOf work (restRun l (drop at file)) ≡ restEnd (done .refusal) (work + workOver (done .accepted)) (done .ledger) (drop stretchBytes (drop at file))
   next-end =
-      let r = stretchRun l (drop at file) in
-      elim (ℕ-discrete (r .refusal) 0) [
-        | yes z ↦ simp (eq-eqb (r .refusal) 0 z) (ap endOf (goes-on l (drop at file) (h .few) z))
-        | no z ↦ simp (ne-eqb (r .refusal) 0 z) (ap endOf (ends-here l (drop at file) (h .few) z))
+      let rest = restRun (done .ledger) (drop stretchBytes (drop at file)) in
+      let added-up : work + workOver (done .accepted ++ rest .accepted) ≡ work + workOver (done .accepted) + workOver (rest .accepted)
+      = omega (arith, work-join (done .accepted) (rest .accepted)) in
+      elim (ℕ-discrete (done .refusal) 0) [
+        | yes z ↦ simp (eq-eqb (done .refusal) 0 z)
+            (ap (endOf work) (goes-on l (drop at file) (h .few) z)
+            ∙ λ i. record { ledger = rest .ledger; accepted = rest .ledger .n; refusal = rest .refusal; work = added-up i })
+        | no z ↦ simp (ne-eqb (done .refusal) 0 z) (ap (endOf work) (ends-here l (drop at file) (h .few) z))
       ]
 
+  pub next-worked : {o : Outcome} → o ≡ outcomeOf (stretchRun l (drop at file)) → (work + o .work ≤ 8 * o .ledger .n) × (o .ledger .n ≤ mostRecords)
+  unfolding outcomeOf
+  next-worked e =
+      let c = counts l (drop at file) (h .few) in
+      rw e (omega (arith, h .worked, over-most (done .accepted), c .n), c .few)
+
   pub whole-goes-on : {o : Outcome} → o ≡ outcomeOf (stretchRun l (drop at file))
-      → (at′ : ℕ) → at′ ≤ length file → drop at′ file ≡ drop stretchBytes (drop at file) → MidWhole file (o .ledger) at′ (o .refusal)
+      → (at′ : ℕ) → at′ ≤ length file → drop at′ file ≡ drop stretchBytes (drop at file) → MidWhole file (o .ledger) at′ (o .refusal) (work + o .work)
   unfolding outcomeOf
   whole-goes-on e at′ inside same =
-      rw e (record { few = counts l (drop at file) (h .few) .few; in-file = inside; so-far = h .so-far ∙ next-end ∙ rw same })
+      record { few = next-worked e .1; in-file = inside; worked = next-worked e .0; so-far = rw e (h .so-far ∙ next-end ∙ rw same) }
 
-pub whole-ends : {file : List ℕ} {l : Ledger} {at refusal : ℕ} → MidWhole file l at refusal → (refusal ≡ 0 → length file ≤ at)
-    → record { ledger = l; accepted = l .n; refusal = refusal } ≡ outcomeOf (wholeRun file)
-whole-ends {file} {l} {at} {refusal} h last = sym (h .so-far ∙ by-refusal (ℕ-discrete refusal 0))
+pub whole-ends : {file : List ℕ} {l : Ledger} {at refusal work : ℕ} → MidWhole file l at refusal work → (refusal ≡ 0 → length file ≤ at)
+    → record { ledger = l; accepted = l .n; refusal = refusal; work = work } ≡ outcomeOf (wholeRun file)
+unfolding workOver
+whole-ends {file} {l} {at} {refusal} {work} h last = sym (h .so-far ∙ by-refusal (ℕ-discrete refusal 0))
   where
-    by-refusal : Dec (refusal ≡ 0) → restEnd refusal l (drop at file) ≡ record { ledger = l; accepted = l .n; refusal = refusal }
+    by-refusal : Dec (refusal ≡ 0) → restEnd refusal work l (drop at file) ≡ record { ledger = l; accepted = l .n; refusal = refusal; work = work }
     by-refusal (yes z) =
         let gone : recordsOf (drop at file) ≡ [] = no-records (drop at file) (simp length-drop (omega (arith, last z))) in
-        simp (eq-eqb refusal 0 z) (rw (gone, run-ends, z))
+        simp (eq-eqb refusal 0 z) (rw (gone, run-ends, z, add-zero))
     by-refusal (no z) = simp (ne-eqb refusal 0 z)

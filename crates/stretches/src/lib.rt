@@ -33,8 +33,8 @@ pub fn run_stretch(ledger: Ledger, file: &[u8], at: usize, out: &mut [u8]) -> Ou
     run::run(ledger, &file[at..end], out)
 }
 
-// Answers the ledger, the number of accepted records and the refusal with which a file ends that is run from a fresh ledger with room
-// for every output record; none of these is kept.
+// Answers the ledger, the number of accepted records, the refusal and the decay work of a file that is run from a fresh ledger with
+// room for every output record; the output records are not kept.
 pub fn whole_run(file: &[u8]) -> Outcome
     ensures { λ r. ⌜ r ≡ outcomeOf (wholeRun (now (file .entry))) ⌝ }
 {
@@ -42,16 +42,19 @@ pub fn whole_run(file: &[u8]) -> Outcome
     let mut ledger = Ledger::fresh();
     let mut at: usize = 0;
     let mut refusal: u8 = 0;
+    let mut work: u64 = 0;
     while (refusal == 0) & (at < file.len()) {
         let ran = run_stretch(ledger, file, at, &mut out);
         let next = ran.ledger;
         ledger = next;
         refusal = ran.refusal;
+        work += ran.work;
         at = stretch_end(file, at);
     }
     Outcome {
         ledger,
         accepted: ledger.n as u64,
         refusal,
+        work,
     }
 }

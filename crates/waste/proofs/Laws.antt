@@ -1,11 +1,12 @@
 -- Laws of the constants: what stands past the lists, what has no group, and how large a constant can be.
 use mathlib.Core.Path.{_≡_, refl, sym}
-use mathlib.Core.Bool.{true}
+use mathlib.Core.Bool.{true, false}
 use mathlib.Core.List.{List, [], _∷_}
 use Prim.Native.Nat.{ℕ, zero, suc, _+_, _≤_, _<_, zero-le}
 use native.Mathlib.Nat.{le-refl}
+use native.Mathlib.Decide.{ℕ-discrete}
 use native.Mathlib.Omega.{arith}
-use borrow.Author.Tests.{eqb-true}
+use borrow.Author.Tests.{eqb-true, eqb-false, eq-eqb, ne-eqb}
 use lib.Dec.{T, eqb, leb, leb→le}
 use lib.ListN.{length, getD, List·getD-eq-default}
 use Rattle.numbers.proofs.Eight.{cond-most}
@@ -72,3 +73,23 @@ unfolding carbonOf
 inert-no-carbon t m e =
     let p : t ≡ 5 = omega (arith, eqb-true) in
     rw p refl
+
+-- Every other type has some, whatever m is.
+sludge-some : (m : ℕ) → (0 < domesticOf m) × (0 < industrialOf m)
+sludge-some m =
+    elim (ℕ-discrete m 0) [
+      | yes e ↦ simp (eq-eqb m 0 e) (omega arith, omega arith)
+      | no e ↦ simp (ne-eqb m 0 e) (omega arith, omega arith)
+    ]
+
+pub carbon-some : (t m : ℕ) → t < 8 → inert t ≡ false → 0 < carbonOf (t + 1) m
+unfolding carbonOf
+carbon-some zero m place e = omega arith
+carbon-some (suc zero) m place e = omega arith
+carbon-some (suc (suc zero)) m place e = omega arith
+carbon-some (suc (suc (suc zero))) m place e = omega arith
+carbon-some (suc (suc (suc (suc zero)))) m place e = omega arith
+carbon-some (suc (suc (suc (suc (suc zero))))) m place e = absurd (eqb-false 6 6 e refl)
+carbon-some (suc (suc (suc (suc (suc (suc zero)))))) m place e = sludge-some m .0
+carbon-some (suc (suc (suc (suc (suc (suc (suc zero))))))) m place e = sludge-some m .1
+carbon-some (suc (suc (suc (suc (suc (suc (suc (suc t)))))))) m place e = absurd (omega arith)

@@ -27,22 +27,24 @@ unfolding runHere outcomeOf
 returns c =
     let run = c .before .before .before .before .before .before .before .before in
     let s = start run .args in
-    let count = ap (λ (o : Outcome). o .accepted) (done run) in (
+    let count = ap (λ (o : Outcome). o .accepted) (done run) in
+    let work = ap (λ (o : Outcome). o .work) (done run) in (
       ap (λ (o : Outcome). o .refusal) (done run),
       (
         c .before .before .write .ensures ∙ rw (done run) (run-next (now (s .image)) (recordsOf (s .records .now)) (length (now (s .out))) (omega (arith, count, c .before .before .before .before .if1 .taken))),
-        (written run, count),
+        (written run, (count, work)),
       ),
     )
 
 returns-2 : tie.Need-returns-2
-unfolding outcomeOf
+unfolding runHere outcomeOf
 returns-2 c =
     let run = c .before .before .before .before in
     let s = start run .args in
-    let count = ap (λ (o : Outcome). o .accepted) (done run) in (
+    let count = ap (λ (o : Outcome). o .accepted) (done run) in
+    let work = ap (λ (o : Outcome). o .work) (done run) in (
       ap (λ (o : Outcome). o .refusal) (done run),
-      (sym (run-stays (now (s .image)) (runHere (now (s .image)) (s .records .now) (length (now (s .out)))) (omega (arith, count, c .if1 .left))), (written run, count)),
+      (sym (run-stays (now (s .image)) (runHere (now (s .image)) (s .records .now) (length (now (s .out)))) (omega (arith, count, c .if1 .left))), (written run, (count, work))),
     )
 
 pub run-spec : {M : Type 1} → statement M

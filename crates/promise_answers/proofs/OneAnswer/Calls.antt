@@ -7,5 +7,5 @@ use Rattle.promise_answers.proofs.OneAnswer.{Settled, by-equation, _&_,
 pub call-take-one : Settled call-take.Learnt (λ κs r s. r & now (s .0) & now (s .1 .1 .0) & now (s .1 .1 .1 .0))
 call-take-one = by-equation (λ κs a r s p. both (p .0) (both (p .1 .0) (both (p .1 .1 .0) (p .1 .1 .1))))
 
-pub call-run-one : Settled call-run.Learnt (λ κs r s. r & now (s .0) & now (s .1 .1 .0) & now (s .1 .1 .1 .0))
-call-run-one = by-equation (λ κs a r s p. both (p .0) (both (p .1 .0) (both (p .1 .1 .0) (p .1 .1 .1))))
+pub call-run-one : Settled call-run.Learnt (λ κs r s. r & now (s .0) & now (s .1 .1 .0) & now (s .1 .1 .1 .0) & now (s .1 .1 .1 .1 .0))
+call-run-one = by-equation (λ κs a r s p. both (p .0) (both (p .1 .0) (both (p .1 .1 .0) (both (p .1 .1 .1 .0) (p .1 .1 .1 .1)))))

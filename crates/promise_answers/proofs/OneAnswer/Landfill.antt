@@ -23,8 +23,8 @@ landfill-fresh-one = by-equation (λ κs a r s p. both (p .0) (p .1))
 pub landfill-take-one : Settled take.Learnt (λ κs r s. r & now (s .0) & now (s .1 .1 .0) & now (s .1 .1 .1 .0))
 landfill-take-one = by-equation (λ κs a r s p. both (p .0) (both (p .1 .0) (both (p .1 .1 .0) (p .1 .1 .1))))
 
-pub landfill-run-one : Settled run.Learnt (λ κs r s. r & now (s .0) & now (s .1 .1 .0) & now (s .1 .1 .1 .0))
-landfill-run-one = by-equation (λ κs a r s p. both (p .0) (both (p .1 .0) (both (p .1 .1 .0) (p .1 .1 .1))))
+pub landfill-run-one : Settled run.Learnt (λ κs r s. r & now (s .0) & now (s .1 .1 .0) & now (s .1 .1 .1 .0) & now (s .1 .1 .1 .1 .0))
+landfill-run-one = by-equation (λ κs a r s p. both (p .0) (both (p .1 .0) (both (p .1 .1 .0) (both (p .1 .1 .1 .0) (p .1 .1 .1 .1)))))
 
 pub landfill-totals-one : Settled totals.Learnt (λ κs r s. r & now (s .1 .0) & now (s .1 .1 .0) & now (s .1 .1 .1 .0))
 landfill-totals-one = by-equation (λ κs a r s p. both (p .0) (both (p .1 .0) (both (p .1 .1 .0) (p .1 .1 .1))))

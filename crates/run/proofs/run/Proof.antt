@@ -1,5 +1,5 @@
 -- `MidRun` holds at the head of the loop; each way out and each turn is a law of it.
-use mathlib.Core.Path.{_≡_, refl, sym, _∙_}
+use mathlib.Core.Path.{_≡_, refl, sym, ap, _∙_}
 use mathlib.Core.Logic.{⊎-elim}
 use mathlib.Core.Bool.{true}
 use mathlib.Core.List.{List}
@@ -13,22 +13,24 @@ use lib.ListN.{length, take, drop}
 use Rattle.record.specs.Ranges.{light}
 use Rattle.ledger.specs.Refusal.{refusalOf}
 use Rattle.ledger.specs.Take.{acceptedOf, enteredOf, outputRecord}
+use Rattle.ledger.specs.declared.answer.Entered.{Entered}
 use Rattle.ledger.proofs.Accepted.{room-alike}
-use Rattle.run.proofs.MidRun.{MidRun, early, run-starts, lent-length, lent-back, reach-within, next-within, at-last, at-early, at-heavy, no-refusal, turn-on, Ends, may-settle}
+use Rattle.ledger.proofs.Settle.{work-small}
+use Rattle.run.proofs.MidRun.{MidRun, early, run-starts, lent-length, lent-back, reach-within, next-within, at-last, at-early, at-heavy, no-refusal, work-fits, turn-on, Ends, may-settle}
 use Rattle.run.proofs.run.Statement.{statement}
 use Rattle.run.proofs.run.Tie as tie
 
 abbrev Inv-loop : tie.InvT-loop
-Inv-loop file out good entries reach first before l at bytes refusal t₀ t = (t ≤ 8) × ((k : ℕ) → k < t → light bytes k ≡ true)
+Inv-loop file out good entries reach first before l at work bytes refusal t₀ t = (t ≤ 8) × ((k : ℕ) → k < t → light bytes k ≡ true)
 
 abbrev μ-loop : tie.MeasureT-loop
-μ-loop file out good entries reach first before l at bytes refusal t₀ t = 8 - t
+μ-loop file out good entries reach first before l at work bytes refusal t₀ t = 8 - t
 
 abbrev Inv-records : tie.InvT-records
-Inv-records file out₀ good entries reach first before l₀ at₀ out l at = MidRun l₀ file out₀ entries good out l at × (at ≤ reach)
+Inv-records file out₀ good entries reach first before l₀ at₀ work₀ out l at work = MidRun l₀ file out₀ entries good out l at work × (at ≤ reach)
 
 abbrev μ-records : tie.MeasureT-records
-μ-records file out₀ good entries reach first before l₀ at₀ out l at = length file - at
+μ-records file out₀ good entries reach first before l₀ at₀ work₀ out l at work = length file - at
 
 abbrev Head : Type 0
 Head = tie.At-records Inv-loop μ-loop Inv-records μ-records
@@ -77,14 +79,22 @@ enter-requires c κs =
     let ok = passed (c .before) in
     rw (add-sub-cancel-left (h .records .at) 48, lent-length (h .records .out) (h .records .at) (ready (c .before .before .before .before .before .before) .in-out)) (ok, h .records .inv .0 .fit ok)
 
+-- the decay work so far is at most a byte of the file each, and a record adds 8 at most
+work-adds : tie.Need-add-work Inv-loop μ-loop Inv-records μ-records
+unfolding enteredOf
+work-adds c =
+    let h = c .before .before .before .before .before .before .before .before .before .before .before .before in
+    let entered = c .before .before .before .before .enter in
+    omega (arith, work-fits (h .records .inv .0), ap (λ (e : Entered). e .work) (entered .ensures .0), work-small (h .records .ledger) (take (h .records .at + 48 - h .records .at) (drop (h .records .at) (fileOf h))), ready (c .before .before .before .before .before .before .before .before .before .before .before) .in-file, c .before .before .before .before .before .before .before .before .before .before .before .before .before .before .before .before .before .before .before .before .before .before .before .before)
+
 -- an accepted record, and how the loop goes on
 records-again : tie.Need-records-again Inv-loop μ-loop Inv-records μ-records
-unfolding enteredOf
+unfolding enteredOf acceptedOf
 records-again c =
-    let h = c .before .before .before .before .before .before .before .before .before .before .before in
-    let r = ready (c .before .before .before .before .before .before .before .before .before .before) in
-    let ok = passed (c .before .before .before .before .before) in
-    let entered = c .before .before .before .enter in (
+    let h = c .before .before .before .before .before .before .before .before .before .before .before .before in
+    let r = ready (c .before .before .before .before .before .before .before .before .before .before .before) in
+    let ok = passed (c .before .before .before .before .before .before) in
+    let entered = c .before .before .before .before .enter in (
       rw (rw (add-sub-cancel-left (h .records .at) 48) at (entered .ensures .0), add-sub-cancel-left (h .records .at) 48)
           (turn-on (h .records .inv .0) _ (omega (arith, r .in-file))
           (room-alike (h .records .ledger) (bytesAt h) (length (h .records .out) - h .records .at) 48 (omega (arith, r .in-out)) (omega arith) ∙ ok)
@@ -122,7 +132,7 @@ settled-requires c κs = may-settle (c .before .records .inv .0) (c .if1 .end .0
 returns : tie.Need-returns Inv-loop μ-loop Inv-records μ-records
 returns c =
     let end = left-with (c .before) in
-    ((λ i. record { ledger = c .settled .ensures i; accepted = end .0 i; refusal = c .before .if1 .end .1 }) ∙ end .1 .0, end .1 .1)
+    ((λ i. record { ledger = c .settled .ensures i; accepted = end .0 i; refusal = c .before .if1 .end .1; work = c .before .before .records .work }) ∙ end .1 .0, end .1 .1)
 
 pub run-spec : {M : Type 1} → statement M
 run-spec =
@@ -136,5 +146,5 @@ run-spec =
     (λ c. omega (arith, c .before .before .before .before .before .before .before .before .before .records .inv .0 .grown)) (λ c. search needs)
     (λ c. search needs) (λ c. search needs) loop-again
     (λ c. omega (arith, ready (c .before .before .before .before .before) .in-file, c .before .before .before .before .before .before .before .before .before .before .before .before .before .before .before .before .before .before)) (λ c. search needs) (λ c. search needs) (λ c. let b = ready (c .before .before .before .before .before) .in-out in search needs) enter-requires
-    (λ c. omega (arith, ready (c .before .before .before .before .before .before .before .before .before .before) .in-file, c .before .before .before .before .before .before .before .before .before .before .before .before .before .before .before .before .before .before .before .before .before .before .before)) (λ c. omega (arith, ready (c .before .before .before .before .before .before .before .before .before .before) .in-file)) records-again
+    work-adds (λ c. omega (arith, ready (c .before .before .before .before .before .before .before .before .before .before .before) .in-file, c .before .before .before .before .before .before .before .before .before .before .before .before .before .before .before .before .before .before .before .before .before .before .before .before)) (λ c. omega (arith, ready (c .before .before .before .before .before .before .before .before .before .before .before) .in-file)) records-again
     settled-requires (λ c. search needs) returns)

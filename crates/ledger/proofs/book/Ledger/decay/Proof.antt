@@ -40,10 +40,10 @@ left-requires c κs =
 
 returns : tie.Need-returns
 returns c =
-    let s = c .before .before .before .before .before in
+    let s = c .before .before .before .before .before .before in
     let bytes = s .args .bytes .now in
     decayed-is (s .args .t1) bytes (s .args .t) (entry-here bytes (s .args .t2) (s .args .t) (s .pre .0 .1) (s .pre .1))
-    (c .before .before .before .deposit .ensures) (c .before .left .ensures .0)
+    (c .before .before .before .before .deposit .ensures) (c .before .before .left .ensures .0) (c .decay-work .ensures)
 
 pub decay-spec : {M : Type 1} → statement M
 decay-spec =
@@ -52,4 +52,4 @@ decay-spec =
     (λ c. let w = within (c .before .before .before) in omega (arith, w .kept, w .small, brings (c .before)))
     (λ c. search needs) (λ c. search needs) left-requires (λ c. search needs) (λ c. search needs)
     (λ c. let w = within (c .before .before .before .before .before) in omega (arith, w .small, brings (c .before .before .before)))
-    (λ c. search needs) returns)
+    (λ c. search needs) (λ c κs. tt) returns)

@@ -53,7 +53,7 @@ less-requires c κs t place =
     rw (e .enter .ensures .0) (omega (arith, released-after (a .self) (a .bytes .now) t place))
 
 -- what is entered of an accepted record, with the releases, is the answer
-answer-is : (l : Ledger) (bytes : List ℕ) (room : ℕ) {e : Entered} {releases : List ℕ} → refusalOf l bytes room ≡ 0 → e ≡ enteredOf (acceptedOf l bytes)
+answer-is : (l : Ledger) (bytes : List ℕ) (room : ℕ) {e : Entered} {releases : List ℕ} → refusalOf l bytes room ≡ 0 → e ≡ enteredOf l bytes
     → releases ≡ eight (λ t. getD (e .ledger .released) t 0 - getD (l .released) t 0)
     → record { ledger = e .ledger; refusal = 0; releases = releases; x0 = e .says .x0; figure = e .says .figure; bound = e .says .bound } ≡ takeOf l bytes room
 unfolding enteredOf acceptedOf outputFields
