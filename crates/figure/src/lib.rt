@@ -94,9 +94,11 @@ pub fn bound(factors: Factors, margins: u64) -> u64
     3 + grams(margins, factors.potential)
 }
 
-// Answers what the output record of record n says, given its bytes, its x0, and T and R of the eight types after it.
-pub fn filed(n: u16, bytes: &[u8], x0: u64, brought: [u64; 8], stock: [u64; 8]) -> Output
+// Answers what the output record of record n says, given its bytes, its x0, its decay work, and T and R of the eight types after it.
+// A record without decay work releases nothing, so its figure is 0 and the chain is not worked out.
+pub fn filed(n: u16, bytes: &[u8], x0: u64, work: u64, brought: [u64; 8], stock: [u64; 8]) -> Output
     requires { ⌜ inRange (factorsOf (now bytes)) ≡ true ⌝ }
+    requires { ⌜ (work ≡ 0 → x0 ≡ 0) ⌝ }
     requires { ⌜ ((t : ℕ) → (t < 8 → (getD brought t 0 ≤ mostBrought) × (getD stock t 0 ≤ mostBrought))) ⌝ }
     ensures { λ r. ⌜ r ≡ record {
       period = n;
@@ -109,11 +111,11 @@ pub fn filed(n: u16, bytes: &[u8], x0: u64, brought: [u64; 8], stock: [u64; 8]) 
       brought = sumOf (λ t. getD brought t 0) 8;
     } ⌝ }
 {
-    let left = carbon::total(stock);
     let factors = Factors::of(bytes);
-    let figure = figure(factors, x0);
-    let all = carbon::total(brought);
+    let figure = if work == 0 { 0 } else { figure(factors, x0) };
+    let left = carbon::total(stock);
     let bound = bound(factors, margins(n, brought));
+    let all = carbon::total(brought);
     Output {
         period: n,
         kind: record::kind(bytes),

@@ -3,10 +3,12 @@ use mathlib.Core.Path.{_≡_}
 use mathlib.Core.List.{List, [], _∷_}
 use Prim.Native.Nat.{ℕ, _+_, _-_, _*_, _≤_}
 use native.Mathlib.Nat.{zero-add, add-zero, add-assoc}
+use native.Mathlib.Decide.{ℕ-discrete}
 use native.Mathlib.Omega.{arith}
+use borrow.Author.Tests.{lt-ltb}
 use lib.Dec.{ltb}
 use Rattle.numbers.specs.Eight.{one}
-use Rattle.numbers.proofs.Eight.{sum-most, cond-most}
+use Rattle.numbers.proofs.Eight.{sum-each, sum-most, sum-none, cond-most}
 use Rattle.record.specs.Fields.{kindOf, climateOf, depositOf}
 use Rattle.carbon.specs.Carbon.{entryAt, leftOf}
 use Rattle.ledger.specs.Step.{broughtAt, stockAt, newBrought, held, newStock, release, work, decayedAt, x0Of, workOf, periodOfAll}
@@ -28,6 +30,20 @@ none-to-decay l bytes t e = rw e
 pub work-most : (l : Ledger) (bytes : List ℕ) (t : ℕ) → work l bytes t ≤ 1
 unfolding work
 work-most l bytes t = cond-most (ltb 0 (held l bytes t)) (omega arith) (omega arith)
+
+-- A record without decay work releases nothing.
+idle : (l : Ledger) (bytes : List ℕ) (t : ℕ) → work l bytes t ≡ 0 → release l bytes t ≡ 0
+unfolding work release
+idle l bytes t e =
+    elim (ℕ-discrete (held l bytes t) 0) [
+      | yes z ↦ omega (arith, z)
+      | no z ↦ absurd (omega (arith, simp (lt-ltb 0 (held l bytes t) (omega (arith, z))) at e))
+    ]
+
+pub none-released : (l : Ledger) (bytes : List ℕ) → workOf l bytes ≡ 0 → x0Of l bytes ≡ 0
+unfolding workOf x0Of
+none-released l bytes e =
+    omega (arith, sum-each (release l bytes) 0 8 (λ t place. idle l bytes t (sum-none (work l bytes) 8 e t place)))
 
 pub work-small : (l : Ledger) (bytes : List ℕ) → workOf l bytes ≤ 8
 unfolding workOf

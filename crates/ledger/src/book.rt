@@ -137,6 +137,7 @@ impl Ledger {
         let e = self.decay(entries, bytes, 4);
         let g = self.decay(entries, bytes, 6);
         let h = self.decay(entries, bytes, 7);
+        let work = a.work + b.work + c.work + d.work + e.work + g.work + h.work;
         let early = a.release + b.release + c.release + d.release;
         let later = e.release + g.release + h.release;
         Period {
@@ -161,7 +162,7 @@ impl Ledger {
                 h.stock,
             ],
             x0: early + later,
-            work: a.work + b.work + c.work + d.work + e.work + g.work + h.work,
+            work,
         }
     }
 
@@ -173,13 +174,13 @@ impl Ledger {
         ensures { λ r. ⌜ r ≡ enteredOf self (now (bytes .entry)) ⌝ }
         ensures { λ _. ⌜ now (out .exit) ≡ outputRecord (acceptedOf self (now (bytes .entry))) ++ drop recordBytes (now (out .entry)) ⌝ }
     {
+        let year = self.year.after(self.n, bytes);
         let all = self.decay_all(entries, bytes);
         let brought = all.brought;
         let stock = all.stock;
         let released = carbon::less(brought, stock);
-        let year = self.year.after(self.n, bytes);
         let n = self.n + 1;
-        let says = figure::filed(n, bytes, all.x0, brought, stock);
+        let says = figure::filed(n, bytes, all.x0, all.work, brought, stock);
         output::write(out, says);
         let ledger = Ledger {
             n,

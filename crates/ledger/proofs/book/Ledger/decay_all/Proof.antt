@@ -1,4 +1,4 @@
--- Each type by itself, inert waste having no carbon; the releases of a sound ledger add up to less than 64 bits hold.
+-- Each type by itself, inert waste having no carbon; the releases of a sound ledger and the decay work add up to less than 64 bits hold.
 use mathlib.Core.Path.{_≡_}
 use Prim.Native.Nat.{ℕ, _+_, _*_, _≤_, _<_}
 use native.Mathlib.Omega.{arith}
@@ -59,16 +59,16 @@ decay-all-spec =
     (tie.spec (λ c κs. search needs) (λ c κs. search needs) (λ c κs. search needs) (λ c κs. search needs)
     (λ c κs. search needs) (λ c κs. search needs)
     (λ c κs. let s = c .before .before .before .before .before .before .before in ((s .pre .0, omega arith), s .pre .1))
-    (λ c. omega (arith, each (c .before .before) .releases))
-    (λ c. omega (arith, each (c .before .before .before) .releases))
-    (λ c. omega (arith, each (c .before .before .before .before) .releases))
-    (λ c. omega (arith, each (c .before .before .before .before .before .before) .releases))
-    (λ c. omega (arith, each (c .before .before .before .before .before .before .before) .releases))
-    (λ c. omega (arith, each (c .before .before .before .before .before .before .before) .releases))
-    (λ c. omega (arith, each (c .before .before .before .before .before .before .before .before .before) .works))
-    (λ c. omega (arith, each (c .before .before .before .before .before .before .before .before .before .before) .works))
-    (λ c. omega (arith, each (c .before .before .before .before .before .before .before .before .before .before .before) .works))
-    (λ c. omega (arith, each (c .before .before .before .before .before .before .before .before .before .before .before .before) .works))
-    (λ c. omega (arith, each (c .before .before .before .before .before .before .before .before .before .before .before .before .before) .works))
-    (λ c. omega (arith, each (c .before .before .before .before .before .before .before .before .before .before .before .before .before .before) .works))
+    (λ c. omega (arith, each (c .before .before) .works))
+    (λ c. omega (arith, each (c .before .before .before) .works))
+    (λ c. omega (arith, each (c .before .before .before .before) .works))
+    (λ c. omega (arith, each (c .before .before .before .before .before) .works))
+    (λ c. omega (arith, each (c .before .before .before .before .before .before) .works))
+    (λ c. omega (arith, each (c .before .before .before .before .before .before .before) .works))
+    (λ c. omega (arith, each (c .before .before .before .before .before .before .before .before .before) .releases))
+    (λ c. omega (arith, each (c .before .before .before .before .before .before .before .before .before .before) .releases))
+    (λ c. omega (arith, each (c .before .before .before .before .before .before .before .before .before .before .before) .releases))
+    (λ c. omega (arith, each (c .before .before .before .before .before .before .before .before .before .before .before .before .before) .releases))
+    (λ c. omega (arith, each (c .before .before .before .before .before .before .before .before .before .before .before .before .before .before) .releases))
+    (λ c. omega (arith, each (c .before .before .before .before .before .before .before .before .before .before .before .before .before .before) .releases))
     returns)
