@@ -54,10 +54,11 @@
  *
  * Decay work. A host that runs many sites in a batch plans its queue by the number of decay multiplications. landfill_run
  * reports that number: one for each record that it accepts and each waste type of which there is carbon then, old stock or
- * the record's own deposit. A type counts from its first delivery until its stock is rounded down to 0, whatever the factors
- * of the records. Inert waste (type 6) has no carbon and never counts. So a host that knows nothing of a site plans 7 for each
- * record, which is never too few, and 8400 for a run; after a run it takes the number that the run reported. The numbers of
- * several runs add up: a file in two runs counts what it counts in one.
+ * the record's own deposit. A type counts from a delivery until its stock is rounded down to 0, whatever the factors of the
+ * records. Inert waste (type 6) has no carbon and never counts. So a host that knows nothing of a site plans 7 for each record
+ * and at most 8400 for a run, which is never too few. After a run it knows the number, and plans the site's next run by it: the
+ * work of a record changes only where a type comes in or runs out. The numbers of several runs on one ledger add up to the
+ * site's work.
  *
  * Tonnes. A mass is a whole number of kilograms. Tonnes in a float times 1000 often are not: 2.01 * 1000.0 is
  * 2009.9999999999998. Of the 100,000 values 0.01, 0.02, .. 1000.00 t, 1175 come out so (1.2 %), and landfill_cell refuses
@@ -248,10 +249,11 @@ uint8_t landfill_take(uint8_t *ledger, size_t ledger_len, const uint8_t *record,
 /* Takes records one after another, stops at the first that is refused, and answers its refusal, 0 if none.
  * *accepted becomes the number of records taken. The image becomes the ledger after them; with none taken it stays as it
  * is. Output record i stands at out + 48 * (i - 1); the bytes past the last one stay. Bytes at the end that make no whole
- * record are refused with 1. With records_len 0 the answer is 0 and *accepted is 0, whatever the image.
+ * record are refused with 1. With records_len 0 the answer is 0, and *accepted and *work are 0, whatever the image.
  * *work becomes the decay work of the records taken: one for each of them and each waste type whose stock before the record,
- * with the record's deposit, is above 0. It is at most 7 * *accepted, and 8400. A refusal sets it to the work of the records
- * before the refused one, which is 0 where none was taken. */
+ * with the record's deposit, is above 0. It is at most 7 for each record taken, so at most 8400. Every call sets it: a refusal
+ * leaves the work of the records before the refused one, which is 0 where none was taken. A program that was compiled before
+ * landfill_run had this pointer must be compiled again. */
 uint8_t landfill_run(uint8_t *ledger, size_t ledger_len, const uint8_t *records, size_t records_len, uint8_t *out,
                      size_t out_len, uint64_t *accepted, uint64_t *work);
 
