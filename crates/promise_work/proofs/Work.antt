@@ -28,7 +28,7 @@ use Rattle.ledger.proofs.Take.{taken, take-refusal}
 use Rattle.run.specs.History.{workOver, recordsOf, Run, runOf, outcomeOf}
 use Rattle.run.proofs.History.{run-goes-on, run-stops, run-ends, run-counts}
 use Rattle.run.proofs.OneRecord.{one-work}
-use Rattle.promise_work.specs.Work.{answerTo, multiplicationsIn, multiplications, stepAnswer, hasCarbon, SameMasses}
+use Rattle.promise_work.specs.Work.{runAnswer, multiplicationsIn, multiplications, stepAnswer, hasCarbon, SameMasses}
 
 -- Record i of some records, the ledger before it, and the room that is left for it.
 module _ (l : Ledger) (records : List (List ℕ)) (room : ℕ) where
@@ -68,7 +68,7 @@ counted l (bytes ∷ rest) room =
       | no e ↦ rw (run-stops l bytes rest room (refusalOf l bytes room) refl e)
     ]
 
-pub work-counted : (l : Ledger) (file out : List ℕ) → answerTo l file out .work ≡ multiplications l file out
+pub work-counted : (l : Ledger) (file out : List ℕ) → runAnswer l file out .work ≡ multiplications l file out
 unfolding outcomeOf workOf work held
 work-counted l file out = counted l (recordsOf file) (length out)
 
@@ -105,17 +105,17 @@ seven l bytes room e =
     let most = work-most l bytes in
     omega (arith, most 0, most 1, most 2, most 3, most 4, none-to-decay l bytes 5 (no-carbon l bytes (accepted-meets l bytes room e) .H), most 6, most 7)
 
-pub seven-a-record : (l : Ledger) (file out : List ℕ) (i : ℕ) → i < answerTo l file out .accepted → multiplicationsIn l file out i ≤ 7
+pub seven-a-record : (l : Ledger) (file out : List ℕ) (i : ℕ) → i < runAnswer l file out .accepted → multiplicationsIn l file out i ≤ 7
 unfolding outcomeOf workOf work held
 seven-a-record l file out i b =
     seven (before l (recordsOf file) (length out) i) (offered l (recordsOf file) (length out) i) (length out - recordBytes * i)
     (each-accepted l (recordsOf file) (length out) i b)
 
 -- a run that accepts a record has a sound ledger, and accepts no more than 1200
-pub most-in-a-run : (l : Ledger) (file out : List ℕ) → answerTo l file out .work ≤ 8400
+pub most-in-a-run : (l : Ledger) (file out : List ℕ) → runAnswer l file out .work ≤ 8400
 unfolding outcomeOf
 most-in-a-run l file out =
-    let k = answerTo l file out .accepted in
+    let k = runAnswer l file out .accepted in
     let sum = sum-most (multiplicationsIn l file out) 7 k (λ i b. seven-a-record l file out i b) in
     elim (ℕ-discrete k 0) [
       | yes none ↦ omega (arith, work-counted l file out, sum)
@@ -140,7 +140,7 @@ module _ (l : Ledger) (bytes out : List ℕ) (e : stepAnswer l bytes out .refusa
       let p : t ≡ 5 = omega (arith, eqb-true (t + 1) 6 is) in
       rw p (no-carbon l bytes (accepted-meets l bytes (length out) passes) .H)
 
-  its-work : answerTo l bytes out .work ≡ workOf l bytes
+  its-work : runAnswer l bytes out .work ≡ workOf l bytes
   its-work = one-work l bytes out (accepted-meets l bytes (length out) passes .size) passes
 
   -- seen from the masses and the ledger: every type but inert waste has carbon in its mass
@@ -167,7 +167,7 @@ module _ (l : Ledger) (bytes out : List ℕ) (e : stepAnswer l bytes out .refusa
       by-type false is =
           rw is (ap one (carbon-in (stockAt l t) (massOf bytes t) (carbonOf (t + 1) (dryOf bytes (t + 1))) (carbon-some t (dryOf bytes (t + 1)) place is)))
 
-  pub by-masses : answerTo l bytes out .work ≡ sumOf (λ t. one (hasCarbon l bytes t)) 8
+  pub by-masses : runAnswer l bytes out .work ≡ sumOf (λ t. one (hasCarbon l bytes t)) 8
   unfolding workOf
   by-masses = its-work ∙ sum-same (work l bytes) (λ t. one (hasCarbon l bytes t)) 8 work-by-mass
 
@@ -184,12 +184,12 @@ module _ (l : Ledger) (bytes out : List ℕ) (e : stepAnswer l bytes out .refusa
             simp (lt-ltb 0 (held l bytes t) (omega (arith, z)), lt-ltb 0 (held l bytes t - newStock l bytes t) (omega (arith, less)))
       ])
 
-  pub by-releases : answerTo l bytes out .work ≡ sumOf (λ t. one (ltb 0 (getD (stepAnswer l bytes out .releases) t 0))) 8
+  pub by-releases : runAnswer l bytes out .work ≡ sumOf (λ t. one (ltb 0 (getD (stepAnswer l bytes out .releases) t 0))) 8
   unfolding workOf
   by-releases = its-work ∙ sum-same (work l bytes) (λ t. one (ltb 0 (getD (stepAnswer l bytes out .releases) t 0))) 8 work-by-release
 
 pub masses-decide : (l : Ledger) (bytes out others rest : List ℕ) → stepAnswer l bytes out .refusal ≡ 0 → stepAnswer l others rest .refusal ≡ 0
-    → SameMasses bytes others → answerTo l bytes out .work ≡ answerTo l others rest .work
+    → SameMasses bytes others → runAnswer l bytes out .work ≡ runAnswer l others rest .work
 masses-decide l bytes out others rest e f same =
     by-masses l bytes out e
     ∙ sum-same (λ t. one (hasCarbon l bytes t)) (λ t. one (hasCarbon l others t)) 8

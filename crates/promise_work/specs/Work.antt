@@ -18,19 +18,19 @@ use Rattle.run.specs.declared.Outcome.{Outcome}
 
 module _ (l : Ledger) (file out : List ℕ) where
   -- What the run answers.
-  abbrev pub answerTo : Outcome
-  answerTo = outcomeOf (runOf l (recordsOf file) (length out))
+  abbrev pub runAnswer : Outcome
+  runAnswer = outcomeOf (runOf l (recordsOf file) (length out))
 
   -- Record i of the file, and the ledger before it: what the run over the records before it leaves.
-  abbrev pub recordAt : (i : ℕ) → List ℕ
-  recordAt i = getD (recordsOf file) i []
+  abbrev pub offeredAt : (i : ℕ) → List ℕ
+  offeredAt i = getD (recordsOf file) i []
 
   abbrev pub ledgerBefore : (i : ℕ) → Ledger
   ledgerBefore i = runOf l (take i (recordsOf file)) (length out) .ledger
 
   -- 'stock with deposit .. before decay'
   abbrev pub stockWithDeposit : (i t : ℕ) → ℕ
-  stockWithDeposit i t = stockAt (ledgerBefore i) t + depositOf (recordAt i) t
+  stockWithDeposit i t = stockAt (ledgerBefore i) t + depositOf (offeredAt i) t
 
   -- 'one for every .. type whose stock with deposit is above zero before decay, none for the others', of record i,
   abbrev pub multiplicationsIn : (i : ℕ) → ℕ
@@ -38,17 +38,17 @@ module _ (l : Ledger) (file out : List ℕ) where
 
   -- and of 'every accepted record'.
   abbrev pub multiplications : ℕ
-  multiplications = sumOf multiplicationsIn (answerTo .accepted)
+  multiplications = sumOf multiplicationsIn (runAnswer .accepted)
 
--- A record, taken on a ledger with an output; what the step answers to it.
+-- What the step answers to one record, with an output.
 abbrev pub stepAnswer : Ledger → (bytes out : List ℕ) → Answer
 stepAnswer l bytes out = takeOf l bytes (length out)
 
--- A type of which there is carbon, seen from the masses and the ledger: 'inert waste has no carbon', and any other type has some where
--- its stock or its mass is above zero.
+-- Whether there is carbon of a type, by the record's masses and the ledger: 'inert waste has no carbon', and any other type has some
+-- where its stock or its mass is above zero.
 abbrev pub hasCarbon : Ledger → List ℕ → (t : ℕ) → Bool
 hasCarbon l bytes t = not (inert t) && (ltb 0 (stockAt l t) || ltb 0 (massOf bytes t))
 
 -- Two records with the same eight masses.
-abbrev pub SameMasses : (one other : List ℕ) → Type 0
-SameMasses one other = (t : ℕ) → t < 8 → massOf one t ≡ massOf other t
+abbrev pub SameMasses : (bytes others : List ℕ) → Type 0
+SameMasses bytes others = (t : ℕ) → t < 8 → massOf bytes t ≡ massOf others t
