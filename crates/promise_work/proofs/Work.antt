@@ -134,11 +134,9 @@ module _ (l : Ledger) (bytes out : List ℕ) (e : stepAnswer l bytes out .refusa
   passes : refusalOf l bytes (length out) ≡ 0
   passes = sym (take-refusal l bytes (length out)) ∙ e
 
-  pub inert-none : (t : ℕ) → inert t ≡ true → stockAt l t + depositOf bytes t ≡ 0
+  pub type-6-none : (t : ℕ) → t ≡ 5 → stockAt l t + depositOf bytes t ≡ 0
   unfolding held
-  inert-none t is =
-      let p : t ≡ 5 = omega (arith, eqb-true (t + 1) 6 is) in
-      rw p (no-carbon l bytes (accepted-meets l bytes (length out) passes) .H)
+  type-6-none t p = rw p (no-carbon l bytes (accepted-meets l bytes (length out) passes) .H)
 
   its-work : runAnswer l bytes out .work ≡ workOf l bytes
   its-work = one-work l bytes out (accepted-meets l bytes (length out) passes .size) passes
@@ -163,7 +161,7 @@ module _ (l : Ledger) (bytes out : List ℕ) (e : stepAnswer l bytes out .refusa
   work-by-mass t place = by-type (inert t) refl
     where
       by-type : (b : Bool) → inert t ≡ b → work l bytes t ≡ one (hasCarbon l bytes t)
-      by-type true is = none-to-decay l bytes t (inert-none t is) ∙ rw is
+      by-type true is = none-to-decay l bytes t (type-6-none t (omega (arith, eqb-true (t + 1) 6 is))) ∙ rw is
       by-type false is =
           rw is (ap one (carbon-in (stockAt l t) (massOf bytes t) (carbonOf (t + 1) (dryOf bytes (t + 1))) (carbon-some t (dryOf bytes (t + 1)) place is)))
 
