@@ -1,14 +1,14 @@
 -- What a sound ledger holds of each type, and that a ledger of which all that holds is sound.
 use mathlib.Core.Path.{_≡_, refl, sym, ap, _∙_}
 use mathlib.Core.Bool.{Bool, true, false, cond, _&&_, and-false}
-use Prim.Native.Nat.{ℕ, zero, suc, _+_, _-_, _≤_, _<_}
+use Prim.Native.Nat.{ℕ, zero, suc, _+_, _-_, _*_, _≤_, _<_}
 use native.Mathlib.Decide.{ℕ-discrete}
 use native.Mathlib.Nat.{zero-mul, add-zero}
 use native.Mathlib.Omega.{arith}
 use borrow.Author.Tests.{eq-eqb, ne-eqb, le-leb, leb-true, eqb-true}
 use lib.Dec.{eqb, leb, leb·suc-zero, eqb·suc-zero}
 use Rattle.numbers.specs.Eight.{eight, everyOf}
-use Rattle.numbers.proofs.Eight.{both-true, three-true, every-at, every-each, every-same, eight-same}
+use Rattle.numbers.proofs.Eight.{both-true, three-true, every-at, every-each, every-same, eight-same, sum-most}
 use Rattle.waste.specs.Kind.{isKind}
 use Rattle.waste.specs.Waste.{isClimate}
 use Rattle.carbon.specs.Carbon.{mostRecords, mostBrought, ceilingOf, withinOf}
@@ -16,6 +16,7 @@ use Rattle.carbon.proofs.Laws.{ceiling-most}
 use Rattle.year_factors.specs.YearFactors.{soundYear}
 use Rattle.ledger.specs.Step.{broughtAt, stockAt, releasedAt}
 use Rattle.ledger.specs.Refusal.{sound, blank, inCode, allZero, inOrder, emptyAt, withinAt}
+use Rattle.ledger.specs.Take.{totalReleased}
 use Rattle.ledger.specs.declared.book.Ledger.{Ledger}
 
 -- Of each type R is at most T, and T at most its ceiling, which is at most that of dry domestic sludge; released and R make up T.
@@ -71,6 +72,12 @@ sound-is l e =
 pub gone-is : (l : Ledger) → sound l ≡ true → eight (λ t. broughtAt l t - stockAt l t) ≡ eight (releasedAt l)
 gone-is l e =
     eight-same (λ t. broughtAt l t - stockAt l t) (releasedAt l) (λ t h. omega (arith, sound-is l e .at t h .parted))
+
+-- What all types have released is at most what they can have brought in.
+pub released-most : (l : Ledger) → sound l ≡ true → totalReleased l ≤ 8 * mostBrought
+unfolding totalReleased
+released-most l e =
+    sum-most (releasedAt l) mostBrought 8 (λ t h. let w = sound-is l e .at t h in omega (arith, w .parted, w .small))
 
 -- A ledger with records, in order, is sound.
 pub sound-by-parts : (l : Ledger) → l .n ≤ mostRecords → (l .n ≡ 0 → ⊥) → inCode l ≡ true → YearSound l

@@ -5,13 +5,13 @@ use Prim.Native.Nat.{ℕ, _+_, _-_, _^_, _≤_, _<_}
 use native.Mathlib.Omega.{arith}
 use lib.ListN.{getD}
 use Rattle.numbers.specs.Eight.{eight}
-use Rattle.numbers.proofs.Eight.{eight-at, eight-same}
+use Rattle.numbers.proofs.Eight.{eight-at, eight-same, sum-plus}
 use Rattle.record.specs.Fields.{kindOf, climateOf, depositOf}
 use Rattle.carbon.specs.Carbon.{entryAt}
 use Rattle.carbon.specs.Carbon.{leftOf}
-use Rattle.ledger.specs.Step.{broughtAt, stockAt, releasedAt, newBrought, held, newStock, release, newReleased, after}
+use Rattle.ledger.specs.Step.{broughtAt, stockAt, releasedAt, newBrought, held, newStock, release, newReleased, x0Of, after}
 use Rattle.carbon.proofs.Laws.{entry-small, left-most}
-use Rattle.ledger.specs.Take.{acceptedOf}
+use Rattle.ledger.specs.Take.{acceptedOf, totalReleased}
 use Rattle.ledger.specs.declared.book.Ledger.{Ledger}
 
 module _ (l : Ledger) (bytes : List ℕ) (t : ℕ) (place : t < 8) where
@@ -44,3 +44,8 @@ module _ (l : Ledger) (bytes : List ℕ) (t : ℕ) (place : t < 8) where
 pub released-between : (l : Ledger) (bytes : List ℕ) → eight (λ t. releasedAt (after l bytes) t - releasedAt l t) ≡ eight (release l bytes)
 released-between l bytes =
     eight-same (λ t. releasedAt (after l bytes) t - releasedAt l t) (release l bytes) (λ t place. omega (arith, released-after l bytes t place))
+
+-- What all types have released grows by x0.
+pub released-grows : (l : Ledger) (bytes : List ℕ) → totalReleased (after l bytes) ≡ totalReleased l + x0Of l bytes
+unfolding after newReleased totalReleased x0Of
+released-grows l bytes = sum-plus (releasedAt l) (release l bytes) 8

@@ -1,12 +1,12 @@
 -- Laws of faults: where the refusal is 0, the fault with any number is not there; a fault is named by its number, not by its place,
 -- also where one is inserted.
 use mathlib.Core.Path.{_≡_, refl, sym, _∙_}
-use mathlib.Core.Bool.{Bool, true, false, cond, _&&_, _||_, and-false}
+use mathlib.Core.Bool.{Bool, true, false, cond, _&&_, _||_, and-false, or-true}
 use mathlib.Core.List.{List, [], _∷_}
 use Prim.Native.Nat.{ℕ, zero, suc, _≤_}
 use native.Mathlib.Omega.{arith}
 use borrow.Author.Tests.{leb-true, eq-eqb}
-use lib.Dec.{eqb, leb, eqb·suc-zero}
+use lib.Dec.{eqb, leb, ltb, eqb·suc-zero}
 use Rattle.numbers.specs.Fault.{Fault, _when_, between, firstOf, ahead, inserted}
 use Rattle.numbers.proofs.Eight.{both-true}
 
@@ -70,6 +70,25 @@ module _ (k : ℕ) where
       by-test true bad on = (λ h. absurd (h refl), λ h. refl)
       by-test false true on = (λ h. refl, λ h. absurd (omega arith))
       by-test false false on = on
+
+-- Whether all faults have numbers up to k, or all have numbers over k; then so has the first of them, where there is one.
+abbrev pub allUpTo : ℕ → List Fault → Bool
+allUpTo k [] = true
+allUpTo k ((number, bad) ∷ rest) = leb number k && allUpTo k rest
+
+abbrev pub allOver : ℕ → List Fault → Bool
+allOver k [] = true
+allOver k ((number, bad) ∷ rest) = ltb k number && allOver k rest
+
+pub first-up-to : (k : ℕ) (faults : List Fault) → allUpTo k faults ≡ true → firstOf faults ≤ k
+first-up-to k [] e = omega arith
+first-up-to k ((number, true) ∷ rest) e = leb-true number k (both-true (leb number k) (allUpTo k rest) e .0)
+first-up-to k ((number, false) ∷ rest) e = first-up-to k rest (both-true (leb number k) (allUpTo k rest) e .1)
+
+pub first-over : (k : ℕ) (faults : List Fault) → allOver k faults ≡ true → (eqb (firstOf faults) 0 || ltb k (firstOf faults)) ≡ true
+first-over k [] e = refl
+first-over k ((number, true) ∷ rest) e = simp (both-true (ltb k number) (allOver k rest) e .0, or-true)
+first-over k ((number, false) ∷ rest) e = first-over k rest (both-true (ltb k number) (allOver k rest) e .1)
 
 -- A fault that is inserted before another: the refusal is that of the faults before it where there is one, else its own number where
 -- it is there, else that of the faults after it.

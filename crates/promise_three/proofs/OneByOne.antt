@@ -1,6 +1,6 @@
 -- Whatever is offered, what comes of it is a fresh ledger and then accepted records, one after another: promises go by induction on
 -- these.
-use mathlib.Core.Path.{_≡_, refl, ap, _∙_}
+use mathlib.Core.Path.{_≡_, refl, sym, ap, _∙_}
 use mathlib.Core.Bool.{true}
 use mathlib.Core.List.{List, [], _∷_, _++_, map-append, append-nil, append-assoc}
 use Prim.Native.Nat.{ℕ, _+_, _≤_, _<_}
@@ -8,20 +8,19 @@ use native.Mathlib.Numerals.{add-one}
 use native.Mathlib.Omega.{arith}
 use native.Mathlib.Decide.{ℕ-discrete}
 use lib.ListN.{length, getD}
-use Rattle.numbers.specs.Eight.{sumOf}
 use Rattle.numbers.specs.Lists.{added}
-use Rattle.numbers.proofs.Eight.{sum-plus, eight-at}
+use Rattle.numbers.proofs.Eight.{eight-at}
 use Rattle.numbers.proofs.Lists.{length-more, added-more}
 use Rattle.waste.specs.Kind.{isKind}
 use Rattle.waste.specs.Waste.{isClimate}
 use Rattle.record.specs.Fields.{depositOf}
-use Rattle.ledger.specs.Step.{fresh, releasedAt, release, newReleased, x0Of, after}
+use Rattle.ledger.specs.Step.{fresh, x0Of, after}
 use Rattle.ledger.specs.Refusal.{refusalOf}
 use Rattle.ledger.specs.Take.{acceptedOf, totalReleased}
 use Rattle.run.specs.History.{Offer, Turn}
 use Rattle.ledger.proofs.Accepted as step
 use Rattle.run.proofs.History.{acceptedTurn}
-use Rattle.ledger.proofs.Step.{brought-after, release-answered, released-after, balanced}
+use Rattle.ledger.proofs.Step.{brought-after, release-answered, released-after, balanced, released-grows}
 use Rattle.promise_three.specs.Offering.{Offering, offeringTo, offering, recordsIn}
 use Rattle.promise_three.specs.DemandThree.{Conserved}
 use Rattle.promise_three.proofs.Offering.{offering-ends, offering-goes-on, offering-passes-over, behind}
@@ -88,9 +87,9 @@ conserved t place _ (one-more o bytes room r e) =
 
 -- What all types have released grows by x0 at each record.
 pub released-total : (o : Offering) → OneByOne o → totalReleased (o .ledger) ≡ added (λ (turn : Turn). turn .answer .x0) (o .accepted)
-unfolding fresh after newReleased totalReleased x0Of acceptedOf
+unfolding fresh totalReleased acceptedOf
 released-total _ none-yet = refl
 released-total _ (one-more o bytes room r e) =
-    rw (added-more (λ (turn : Turn). turn .answer .x0) (o .accepted) (acceptedTurn (o .ledger) bytes))
-    (sum-plus (releasedAt (o .ledger)) (release (o .ledger) bytes) 8
-    ∙ ap (λ (n : ℕ). n + sumOf (release (o .ledger) bytes) 8) (released-total o r))
+    released-grows (o .ledger) bytes
+    ∙ ap (λ (n : ℕ). n + x0Of (o .ledger) bytes) (released-total o r)
+    ∙ sym (added-more (λ (turn : Turn). turn .answer .x0) (o .accepted) (acceptedTurn (o .ledger) bytes))

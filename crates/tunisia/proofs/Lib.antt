@@ -1,0 +1,8 @@
+pub mod Sizes
+pub mod Entries
+pub mod Walks
+pub mod Steps
+pub mod OverRun
+pub mod MidYears
+pub mod ByYear
+pub mod Answers

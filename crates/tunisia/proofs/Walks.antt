@@ -1,0 +1,192 @@
+-- The code's walk over accepted records, beside the definitions: after each record it has the year's x0 and T, and the sums of the years.
+use mathlib.Core.Path.{_≡_, refl, sym, ap, _∙_}
+use mathlib.Core.Bool.{Bool, true, false, cond}
+use mathlib.Core.List.{List, [], _∷_, _++_}
+use Prim.Native.Nat.{ℕ, _+_, _*_, _/_, _^_, _≤_, _<_}
+use native.Mathlib.Omega.{arith}
+use lib.ListN.{length, getD}
+use Rattle.numbers.specs.Eight.{eight}
+use Rattle.numbers.specs.Fault.{between}
+use Rattle.numbers.specs.Lists.{added}
+use Rattle.numbers.proofs.Lists.{length-more, added-more}
+use Rattle.record.specs.Fields.{factorsOf, depositOf}
+use Rattle.record.specs.Ranges.{inRange}
+use Rattle.record.specs.declared.factors.Factors.{Factors}
+use Rattle.carbon.specs.Carbon.{mostRecords, mostBrought}
+use Rattle.figure.specs.Figure.{figureOf, BOf, boundOf}
+use Rattle.figure.proofs.Laws.{figure-half, bound-half, B-most}
+use Rattle.ledger.specs.Step.{fresh, broughtAt, newBrought, x0Of, after}
+use Rattle.ledger.specs.Refusal.{sound, refusalOf}
+use Rattle.ledger.specs.Take.{acceptedOf, totalReleased}
+use Rattle.ledger.specs.declared.book.Ledger.{Ledger}
+use Rattle.ledger.proofs.Accepted.{Accepted, accepted-meets, fresh-sound, stays-sound, new-small}
+use Rattle.ledger.proofs.Sound.{sound-is, released-most}
+use Rattle.ledger.proofs.Step.{released-grows}
+use Rattle.run.specs.History.{Turn}
+use Rattle.run.proofs.History.{acceptedTurn}
+use Rattle.tunisia.specs.Years.{Year, yearOf, yearsFrom, yearsOf}
+use Rattle.tunisia.specs.Reduction.{inClass, referenceOf, projectOf, projectBound, referenceBound, boundsOf, stretchOf}
+use Rattle.tunisia.specs.Walk.{sumsOf, withYear, nextYear, walkedOn, noneWalked, Ready, SumsFit}
+use Rattle.tunisia.specs.declared.year.Sums.{Sums}
+use Rattle.tunisia.specs.declared.year.Walked.{Walked}
+
+-- x0 of the last of some records
+abbrev pub lastX0 : (x0 : ℕ) → List Turn → ℕ
+lastX0 x0 [] = x0
+lastX0 x0 (turn ∷ rest) = lastX0 (turn .answer .x0) rest
+
+-- One record more has one year more.
+years-more : (x0 : ℕ) (done : List Turn) (turn : Turn) → yearsFrom x0 (done ++ (turn ∷ [])) ≡ yearsFrom x0 done ++ (yearOf (lastX0 x0 done) turn ∷ [])
+unfolding yearsFrom
+years-more x0 [] turn = refl
+years-more x0 (one ∷ done) turn = ap (λ (ys : List Year). yearOf x0 one ∷ ys) (years-more (one .answer .x0) done turn)
+
+last-more : (x0 : ℕ) (done : List Turn) (turn : Turn) → lastX0 x0 (done ++ (turn ∷ [])) ≡ turn .answer .x0
+last-more x0 [] turn = refl
+last-more x0 (one ∷ done) turn = last-more (one .answer .x0) done turn
+
+stretch-more : (first last : ℕ) (years : List Year) (year : Year)
+    → stretchOf first last (years ++ (year ∷ [])) ≡ cond (between first (year .number) last) (stretchOf first last years ++ (year ∷ [])) (stretchOf first last years)
+unfolding stretchOf
+stretch-more first last [] year = refl
+stretch-more first last (one ∷ years) year =
+    ap (λ (ys : List Year). cond (between first (one .number) last) (one ∷ ys) ys) (stretch-more first last years year)
+    ∙ both (between first (one .number) last) (between first (year .number) last)
+  where
+    both : (a b : Bool) → let ys = stretchOf first last years in
+        cond a (one ∷ cond b (ys ++ (year ∷ [])) ys) (cond b (ys ++ (year ∷ [])) ys) ≡ cond b (cond a (one ∷ ys) ys ++ (year ∷ [])) (cond a (one ∷ ys) ys)
+    both true true = refl
+    both true false = refl
+    both false true = refl
+    both false false = refl
+
+sums-more : (test : Bool) (stretch : List Year) (year : Year)
+    → sumsOf (cond test (stretch ++ (year ∷ [])) stretch) ≡ cond test (withYear (sumsOf stretch) year) (sumsOf stretch)
+unfolding sumsOf withYear
+sums-more true stretch year =
+    λ i. record {
+      reference = added-more referenceOf stretch year i;
+      project = added-more projectOf stretch year i;
+      bound = added-more boundsOf stretch year i;
+    }
+sums-more false stretch year = refl
+
+-- The class has no range of its own.
+pub in-class : (v : Factors) (class : ℕ) → inRange v ≡ true → inRange (inClass class v) ≡ true
+unfolding inRange inClass
+in-class v class e = e
+
+-- How much a year adds: figures of at most half of x0, and bounds of at most B and 7 together.
+module _ (year : Year) (e : inRange (year .factors) ≡ true) where
+  reference-half : referenceOf year + referenceOf year ≤ year .release
+  unfolding referenceOf
+  reference-half = omega (arith, figure-half (inClass 1 (year .factors)) (year .release) (in-class (year .factors) 1 e))
+
+  project-half : projectOf year + projectOf year ≤ year .release
+  unfolding projectOf
+  project-half = figure-half (inClass 2 (year .factors)) (year .release) (in-class (year .factors) 2 e)
+
+  bounds-most : boundsOf year ≤ year .B + 7
+  unfolding boundsOf referenceBound projectBound
+  bounds-most = omega (arith, bound-half (year .factors) (year .B) e)
+
+-- What the walk has after some accepted records from a fresh ledger, which is l by then.
+pub record Walks (first last : ℕ) (done : List Turn) (l : Ledger) (w : Walked) : Type 0 where
+  pub good : sound l ≡ true
+  pub n : w .n ≡ l .n
+  pub counted : l .n ≡ length done
+  pub T : w .brought ≡ l .brought
+  pub x0 : w .x0 ≡ lastX0 0 done
+  pub sums : w .sums ≡ sumsOf (stretchOf first last (yearsOf done))
+  pub reference : w .sums .reference + w .sums .reference + w .x0 ≤ totalReleased l
+  pub project : w .sums .project + w .sums .project + w .x0 ≤ totalReleased l
+  pub bound : w .sums .bound ≤ w .n * 2 ^ 44
+
+pub walk-starts : (first last : ℕ) → Walks first last [] fresh noneWalked
+unfolding fresh noneWalked sumsOf stretchOf yearsOf yearsFrom totalReleased
+walk-starts first last =
+    record {
+      good = fresh-sound;
+      n = refl;
+      counted = refl;
+      T = refl;
+      x0 = refl;
+      sums = refl;
+      reference = omega arith;
+      project = omega arith;
+      bound = omega arith;
+    }
+
+-- The sums are small at the end.
+pub walk-fits : {first last : ℕ} {done : List Turn} {l : Ledger} {w : Walked} → Walks first last done l w → SumsFit (w .sums)
+walk-fits {l = l} h = (omega (arith, h .reference, released-most l (h .good)), omega (arith, h .project, released-most l (h .good)))
+
+-- An accepted record more.
+module _ {first last : ℕ} {done : List Turn} {l : Ledger} {w : Walked} (h : Walks first last done l w) (bytes : List ℕ) (room : ℕ) (e : refusalOf l bytes room ≡ 0) where
+  a : Accepted l bytes
+  a = accepted-meets l bytes room e
+
+  pub ready : Ready w bytes
+  unfolding newBrought
+  ready =
+      record {
+        few = rw (h .n) (a .more);
+        ranges = a .ranges;
+        brings = λ t place. rw (h .T) (new-small l bytes a t place .T);
+        reference = omega (arith, h .reference, released-most l (h .good));
+        project = omega (arith, h .project, released-most l (h .good));
+        bound = h .bound;
+      }
+
+  abbrev year : Year
+  year = nextYear w bytes
+
+  year-is : yearOf (lastX0 0 done) (acceptedTurn l bytes) ≡ year
+  unfolding yearOf nextYear
+  year-is = rw (h .n, h .T, h .x0)
+
+  abbrev test : Bool
+  test = between first (w .n + 1) last
+
+  sums-on : cond test (withYear (w .sums) year) (w .sums) ≡ sumsOf (stretchOf first last (yearsOf (done ++ (acceptedTurn l bytes ∷ []))))
+  unfolding yearsOf nextYear
+  sums-on =
+      rw (h .sums)
+      (sym (ap (λ (ys : List Year). sumsOf (stretchOf first last ys)) (years-more 0 done (acceptedTurn l bytes) ∙ rw year-is)
+      ∙ ap sumsOf (stretch-more first last (yearsOf done) year)
+      ∙ sums-more test (stretchOf first last (yearsOf done)) year))
+
+  ranges : inRange (year .factors) ≡ true
+  unfolding nextYear
+  ranges = a .ranges
+
+  B-small : year .B ≤ 2 ^ 43
+  unfolding nextYear
+  B-small = rw (h .n, h .T) (B-most (l .n) (broughtAt l) (sound-is l (h .good) .few) (λ t place. sound-is l (h .good) .at t place .small))
+
+  -- with or without the year
+  by-test : (b : Bool) → let sums = cond b (withYear (w .sums) year) (w .sums) in
+      (sums .reference + sums .reference ≤ totalReleased l) × ((sums .project + sums .project ≤ totalReleased l) × (sums .bound ≤ w .n * 2 ^ 44 + 2 ^ 44))
+  unfolding withYear nextYear
+  by-test true = (
+    omega (arith, h .reference, reference-half year ranges),
+    (omega (arith, h .project, project-half year ranges), omega (arith, h .bound, bounds-most year ranges, B-small)),
+  )
+  by-test false = (omega (arith, h .reference), (omega (arith, h .project), omega (arith, h .bound)))
+
+  pub walks-on : Walks first last (done ++ (acceptedTurn l bytes ∷ [])) (acceptedOf l bytes .ledger) (walkedOn first last w bytes (x0Of l bytes))
+  unfolding acceptedOf walkedOn after newBrought
+  walks-on =
+      let grown = released-grows l bytes in
+      let small = by-test test in
+      record {
+        good = stays-sound l bytes a;
+        n = rw (h .n);
+        counted = omega (arith, h .counted, length-more done (acceptedTurn l bytes));
+        T = rw (h .T);
+        x0 = sym (last-more 0 done (acceptedTurn l bytes));
+        sums = sums-on;
+        reference = omega (arith, small .0, grown);
+        project = omega (arith, small .1 .0, grown);
+        bound = omega (arith, small .1 .1);
+      }

@@ -1,0 +1,3 @@
+pub mod Years
+pub mod Reduction
+pub mod Walk
