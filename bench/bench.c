@@ -1,15 +1,16 @@
 /* Runs one peer, or another entry of the library, over the first records of a monthly file of 1200, or of the same by year or
- * with a dry matter of sludge; or puts these records right as if they were shuffled; or shares a total by the first of 400
- * samples; or works a correction factor out; or looks an entry of the decay table up; or compares what all peers write, and
- * fails where one refuses a record or a total, library and reference differ, two put a file right, share a total or look an
- * entry up unlike, or a factor is not as expected.
- * Usage: bench PEER COUNT, bench ENTRY COUNT, bench REPAIRER COUNT, bench SHARER COUNT, bench WORKER FACTOR or bench FINDER
- * RATE, with the number in four digits; bench compare */
+ * with a dry matter of sludge; or puts these records right as if they were shuffled; or works the reduction of the first years
+ * out; or shares a total by the first of 400 samples; or works a correction factor out; or looks an entry of the decay table up;
+ * or compares what all peers write, and fails where one refuses a record, a stretch or a total, library and reference differ,
+ * two put a file right, share a total or look an entry up unlike, or a factor is not as expected.
+ * Usage: bench PEER COUNT, bench ENTRY COUNT, bench REPAIRER COUNT, bench REDUCER COUNT, bench SHARER COUNT, bench WORKER FACTOR
+ * or bench FINDER RATE, with the number in four digits; bench compare */
 #include "doubles.h"
 #include "factors.h"
 #include "inputs.h"
 #include "landfill.h"
 #include "look_ups.h"
+#include "reductions.h"
 #include "reference.h"
 #include "repaired.h"
 #include "sorted.h"
@@ -21,10 +22,11 @@
 
 enum { RECORDS = 1200, BYTES = 48, PEERS = 5, ENTRIES = 5, EQUATION = 4, MOST_BY_EQUATION = 120 };
 enum { SAMPLES = 400, TOTAL = 987654321, SHARERS = 3 };
-enum { WORKED = 2, WORKERS = 3, FINDERS = 4, REPAIRERS = 3 };
+enum { WORKED = 2, WORKERS = 3, FINDERS = 4, REPAIRERS = 3, REDUCERS = 3 };
 
 static uint8_t file[RECORDS * BYTES], out[PEERS][RECORDS * BYTES], text[90 * (RECORDS + 1)];
 static uint8_t samples[SAMPLES * LANDFILL_SAMPLE_BYTES], report[REPAIRERS][RECORDS];
+static uint64_t electricity[RECORDS], fuel[RECORDS];
 
 /* Takes correction factor, site class and captured f from the month before. */
 static void repeat_year(uint8_t *record)
@@ -131,6 +133,12 @@ static const struct {
     repaired_work *repair;
 } repairers[REPAIRERS] = {{"repair", landfill_repair}, {"repaired", repaired_file}, {"reference-repair", reference_repair}};
 
+static const struct {
+    const char *name;
+    reductions_work *reduce;
+} reducers[REDUCERS] = {
+    {"tunisia", landfill_tunisia}, {"reductions", reductions_by_exp}, {"reference-tunisia", reference_tunisia}};
+
 typedef uint8_t sharing(uint8_t kind, uint64_t total, const uint8_t *samples, size_t samples_len, uint32_t *masses);
 
 static const struct {
@@ -187,6 +195,60 @@ static int all_repair_alike(void)
             memcmp(report[it], report[0], sizeof report[0]) != 0)
             return 0;
     return 1;
+}
+
+/* What a reducer answers for a stretch; it starts as zeros, so that two can be compared byte by byte. */
+struct reduced {
+    uint64_t reference, project, bound, years, refused;
+    int64_t reduction;
+};
+
+/* Tells whether the reduction of a stretch of the first records is worked out; for no records there is no call. */
+static int reduces(int it, size_t count, uint64_t first, uint64_t last, struct reduced *to)
+{
+    uint8_t refused = 0;
+    if (count == 0) return 1;
+    memset(to, 0, sizeof *to);
+    uint8_t refusal = reducers[it].reduce(file, BYTES * count, first, last, electricity, last - first + 1, fuel,
+                                          last - first + 1, &to->reference, &to->project, &to->reduction, &to->bound,
+                                          &to->years, &refused);
+    to->refused = refused;
+    return refusal == 0 && refused == 0 && to->years == count;
+}
+
+/* Makes the records yearly and enters some electricity and fuel. */
+static void make_years(int measured)
+{
+    change_records(LANDFILL_YEARLY, measured);
+    for (unsigned i = 0; i < RECORDS; i++) {
+        electricity[i] = 1000000 * (i % 7);
+        fuel[i] = 300000 * (i % 11);
+    }
+}
+
+/* Prints how far the peer's reductions of single years, every eighth, are from the library's, as `compare` does for figures.
+ * Tells whether the reference has what the library has. */
+static int all_reduce_alike(int measured)
+{
+    uint64_t most = 0, bound_there = 0, outside = 0;
+    struct reduced its[REDUCERS];
+    make_years(measured);
+    for (uint64_t y = 8; y <= RECORDS; y += 8) {
+        for (int it = 0; it < REDUCERS; it++)
+            if (!reduces(it, RECORDS, y, y, &its[it])) return 0;
+        if (memcmp(&its[0], &its[2], sizeof its[0]) != 0) return 0;
+        int64_t apart = its[0].reduction - its[1].reduction;
+        if (apart < 0) apart = -apart;
+        if ((uint64_t)apart > most) {
+            most = (uint64_t)apart;
+            bound_there = its[0].bound;
+        }
+        outside += (uint64_t)apart >= its[0].bound;
+    }
+    printf("| exp-once, reductions%s | %d | no | %" PRIu64 " | %" PRIu64 " | %" PRIu64 " |\n",
+           measured ? ", measured sludge" : "", RECORDS / 8, most, bound_there, outside);
+    return reduces(0, RECORDS, 1, RECORDS, &its[0]) && reduces(2, RECORDS, 1, RECORDS, &its[2]) &&
+           memcmp(&its[0], &its[2], sizeof its[0]) == 0;
 }
 
 /* Tells whether the total is shared by a month's 3 samples or a year's; for no samples there is no call. */
@@ -270,17 +332,25 @@ int main(int words, char **word)
 {
     uint32_t masses[LANDFILL_TYPES];
     uint64_t changed;
+    struct reduced reduced;
     make_months();
     make_samples(samples, SAMPLES);
-    if (words == 2 || (words == 3 && strcmp(word[1], "reference") == 0)) reference_start();
+    if (words == 2 || (words == 3 && strncmp(word[1], "reference", 9) == 0)) reference_start();
     if (words == 2 && strcmp(word[1], "compare") == 0) {
         int alike = all_run_alike(0) && all_run_alike(1) && all_share_alike(3) && all_share_alike(SAMPLES);
-        return alike && all_work_alike() && all_find_alike() && all_repair_alike() ? 0 : 1;
+        alike = alike && all_work_alike() && all_find_alike() && all_repair_alike();
+        return alike && all_reduce_alike(0) && all_reduce_alike(1) ? 0 : 1;
     }
     for (int entry = 0; words == 3 && entry < ENTRIES; entry++)
         if (strcmp(word[1], entries[entry].name) == 0) return enters(entry, strtoul(word[2], NULL, 10)) ? 0 : 1;
     for (int it = 0; words == 3 && it < REPAIRERS; it++)
         if (strcmp(word[1], repairers[it].name) == 0) return repairs(it, strtoul(word[2], NULL, 10), &changed) ? 0 : 1;
+    for (int it = 0; words == 3 && it < REDUCERS; it++)
+        if (strcmp(word[1], reducers[it].name) == 0) {
+            size_t count = strtoul(word[2], NULL, 10);
+            make_years(0);
+            return reduces(it, count, 1, count, &reduced) ? 0 : 1;
+        }
     for (int sharer = 0; words == 3 && sharer < SHARERS; sharer++)
         if (strcmp(word[1], sharers[sharer].name) == 0) return shares(sharer, strtoul(word[2], NULL, 10), masses) ? 0 : 1;
     for (int worker = 0; words == 3 && worker < WORKERS; worker++)

@@ -13,11 +13,11 @@
  *
  * What the caller sees to. None of it is tested, and without it nothing is promised:
  * - A buffer is a pointer, then its length in bytes. So many bytes of one object stand there; they may be read, and also
- *   written where the pointer is not to const. A pointer without a length is to one number, and masses of landfill_masses
- *   to eight.
+ *   written where the pointer is not to const. electricity and fuel of landfill_tunisia point to numbers, and their lengths
+ *   count numbers. A pointer without a length is to one number, and masses of landfill_masses to eight.
  * - No pointer is NULL, not even where the length is 0.
  * - No two buffers of a call overlap, and no number that the call writes lies in a buffer or in another such number.
- * - Buffers need no alignment. Numbers behind pointers are aligned as C aligns them.
+ * - Buffers of bytes need no alignment. Numbers behind pointers are aligned as C aligns them.
  * - While a call runs, no other thread writes what it was given, or reads what it may write.
  * The helpers at the end ask the same. They take no length: what they read or write has a fixed size.
  *
@@ -60,6 +60,14 @@
  * work of a record changes only where a type comes in or runs out. The numbers of several runs on one ledger add up to the
  * site's work.
  *
+ * Reductions in Tunisia. Under the Joint Crediting Mechanism's methodology for Tunisia ("Introduction of semi-aerobic landfill
+ * technology in solid waste disposal site", version 01.0), a project reports over a stretch of years what an anaerobic managed
+ * site would have emitted, what the semi-aerobic site emits, and the difference. landfill_tunisia works these out from the
+ * site's file of yearly records. The figure of year y comes from the carbon released in year y - 1, with the factors of record
+ * y; year 1 has figure 0. So the file has a record for each year of the stretch, also for years that bring no waste. The caller
+ * enters the grams CO2e of the electricity and the fuel of each year. No year's reference is below its project, so a reduction
+ * below zero comes from electricity and fuel alone. The site class of a record is not used here; it still has to be a code.
+ *
  * Tonnes. A mass is a whole number of kilograms. Tonnes in a float times 1000 often are not: 2.01 * 1000.0 is
  * 2009.9999999999998. Of the 100,000 values 0.01, 0.02, .. 1000.00 t, 1175 come out so (1.2 %), and landfill_cell refuses
  * them with 11. Round first:
@@ -90,6 +98,9 @@ enum {
     LANDFILL_LISTING_BYTES = 108090, /* room for the listing of any file: 90 for each of 1201 lines */
     LANDFILL_MASS_LIMIT = 1000000000 /* the largest mass of one type in one record, and the largest total to share, in kg */
 };
+
+/* The most grams CO2e of electricity, and the most of fuel, that landfill_tunisia takes for a year: 10^15. */
+#define LANDFILL_GRAMS_LIMIT UINT64_C(1000000000000000)
 
 /* Kinds. */
 enum { LANDFILL_YEARLY = 1, LANDFILL_MONTHLY = 2 };
@@ -207,8 +218,8 @@ enum {
  * from before, whose ceiling on T has DOC 500 and 900 for types 7 and 8; and a record that has an m is refused by it with 5. */
 
 /* Refusals. The first that holds is the answer, and they are tested in this order: for a record 1, 2, 3, 4, 5, 6, 7, 8, 17, 9;
- * for a total with its samples 14, 15, 16; for uncertainties 18, 19; for a file to repair 20, 21, 22. The numbers may come to
- * have gaps. */
+ * for a total with its samples 14, 15, 16; for uncertainties 18, 19; for a file to repair 20, 21, 22. For landfill_tunisia they
+ * are 1, 4, 5, 23, 6, 7, 8, 9 for a record, and 24, 25 for a stretch of years. The numbers may come to have gaps. */
 enum {
     LANDFILL_ACCEPTED = 0,           /* not refused */
     LANDFILL_NOT_48_BYTES = 1,       /* the record is not 48 bytes */
@@ -232,7 +243,10 @@ enum {
     LANDFILL_NOT_A_CHOICE = 19,      /* a code of an uncertainty is not 1 or 2 */
     LANDFILL_NOT_AN_ORDER = 20,      /* the order is not eight bytes, or does not name each of the types 1 to 8 once */
     LANDFILL_NOT_WHOLE_RECORDS = 21, /* the length of the file to repair is not a multiple of 48 */
-    LANDFILL_NO_ROOM_FOR_REPAIR = 22 /* the output is shorter than the file, or the report than its number of records */
+    LANDFILL_NO_ROOM_FOR_REPAIR = 22, /* the output is shorter than the file, or the report than its number of records */
+    LANDFILL_NOT_YEARLY = 23,        /* a monthly record, for landfill_tunisia */
+    LANDFILL_NOT_A_STRETCH = 24,     /* the years are none, not all accepted, or have not one entry of each kind of grams each */
+    LANDFILL_GRAMS_TOO_LARGE = 25    /* an entry of electricity or fuel is over 10^15 grams */
 };
 
 /* Makes the image a fresh ledger, all zero, and answers 0.
@@ -323,6 +337,28 @@ uint8_t landfill_factor_by_codes(uint8_t a, uint8_t b, uint8_t c, uint8_t d, uin
  * stay as they are. */
 uint8_t landfill_repair(const uint8_t *order, size_t order_len, const uint8_t *file, size_t file_len, uint8_t *out,
                         size_t out_len, uint8_t *report, size_t report_len, uint64_t *changed);
+
+/* Works out the reduction over the years first to last of a site under the Tunisian methodology, in grams CO2e, and answers 0.
+ * file is the site's yearly records from its first year on, one after another; they are run from a fresh ledger. electricity
+ * and fuel have one entry in grams CO2e for each year of the stretch, entry 0 for year first; their lengths count entries,
+ * not bytes.
+ * Year y takes x0 of record y - 1 (0 in year 1) through the chain of factors of record y, rounding down after each line:
+ * - its reference has class 1 in place of the record's, and is then multiplied by 73, divided by 100 and rounded down;
+ * - its project has class 2 in place of the record's;
+ * - the bound of its project is 3 + B * 4 * GWP / 3000 rounded down, with the GWP of record y and the B of period y - 1, which
+ *   is 0 in year 1; the bound of its reference is one gram more.
+ * *reference and *project become the figures of the stretch added, *reduction becomes *reference - *project - all electricity
+ * - all fuel, and *bound all bounds of reference and project added. The exact formula's reduction differs from *reduction by
+ * less than *bound.
+ * *years becomes the number of accepted years, which end before the first refused record, and *refused that record's refusal,
+ * 0 if none. Records are refused as landfill_run refuses them with room for all output, and a monthly one with 23, after 5
+ * and before 6; bytes at the end that make no whole record are refused with 1. A refused record does not refuse a stretch
+ * before it: then the answer is 0 and *refused is not.
+ * Answers 24 unless 1 <= first <= last <= *years and both lengths are exactly last - first + 1, then 25 when an entry is over
+ * 10^15, with *reference, *project, *reduction and *bound 0; *years and *refused are set all the same. */
+uint8_t landfill_tunisia(const uint8_t *file, size_t file_len, uint64_t first, uint64_t last, const uint64_t *electricity,
+                         size_t electricity_len, const uint64_t *fuel, size_t fuel_len, uint64_t *reference,
+                         uint64_t *project, int64_t *reduction, uint64_t *bound, uint64_t *years, uint8_t *refused);
 
 /* Helpers, compiled into the caller. They take buffers byte by byte, so that byte order and alignment do not matter. */
 
@@ -515,6 +551,10 @@ static inline const char *landfill_refusal_text(unsigned refusal)
     case LANDFILL_NOT_AN_ORDER: return "The order does not name each of the eight types once.";
     case LANDFILL_NOT_WHOLE_RECORDS: return "The file is not whole records of 48 bytes.";
     case LANDFILL_NO_ROOM_FOR_REPAIR: return "There is too little room for the repaired file or for its report.";
+    case LANDFILL_NOT_YEARLY: return "The record is monthly, where only yearly ones are taken.";
+    case LANDFILL_NOT_A_STRETCH:
+        return "The years are none, are not all accepted, or do not have one entry each of electricity and of fuel.";
+    case LANDFILL_GRAMS_TOO_LARGE: return "An entry of electricity or fuel is over 1,000,000,000,000,000 grams.";
     default: return "No refusal has this number.";
     }
 }

@@ -6,7 +6,8 @@ target=target/c
 library='' seed=1
 flags='-std=c11 -O2 -Wall -Wextra -Werror -Iinclude -Itests/c'
 # The files of the differential test.
-differential='differential years sludge orders work reported choices uncertainties offers sides inputs ledgers reference entries'
+differential='differential years sludge orders work reported choices uncertainties tunisia accepted entered stretches offers sides
+ inputs ledgers reference entries reference_years'
 
 stop() { printf '%s\n' "$*" >&2; exit 2; }
 
@@ -59,20 +60,14 @@ build() {
     "$gcc" $flags -static -o "$target/$name" "$@" "$maths"
 }
 
-# Makes an archive of the reference under the library's names, with an edit by sed in one of its files if one is given:
-# standin [FILE EDIT] makes $target/standin/libstandin.a.
+# Makes an archive of the reference under the library's names: $target/standin/libstandin.a.
 standin() {
     rm -rf "$target/standin"
     mkdir -p "$target/standin"
-    for file in reference.h reference.c entries.c standin.c; do
+    for file in reference.h reference.c entries.c reference_years.c standin.c; do
         sed 's/reference_/standin_/g' "tests/c/$file" >"$target/standin/$file"
     done
-    if [ $# -eq 2 ]; then
-        cp "$target/standin/$1" "$target/standin/before"
-        sed -i "$2" "$target/standin/$1"
-        ! cmp -s "$target/standin/before" "$target/standin/$1" || stop "nothing to edit in $1: $2"
-    fi
-    for file in reference entries standin; do
+    for file in reference entries reference_years standin; do
         "$gcc" -std=c11 -O2 -Iinclude -ffunction-sections -c -o "$target/standin/$file.o" "$target/standin/$file.c"
     done
     "$ar" rc "$target/standin/libstandin.a" "$target"/standin/*.o

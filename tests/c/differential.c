@@ -1,10 +1,11 @@
 /* Runs the library and the reference on many inputs, good and bad, and compares every answer and every byte.
- * Usage: differential [SEED] */
+ * Usage: differential [SEED [tunisia]], where the last word leaves all parts out but the one for reductions */
 #include "offers.h"
 #include "orders.h"
 #include "reference.h"
 #include "sides.h"
 #include "sludge.h"
+#include "tunisia.h"
 #include "uncertainties.h"
 #include "work.h"
 #include "years.h"
@@ -298,11 +299,8 @@ static void all_faults(void)
     }
 }
 
-int main(int count, char **words)
+static void all_ledgers(void)
 {
-    uint64_t number = count > 1 ? strtoull(words[1], NULL, 0) : 1;
-    seed(number);
-    reference_start();
     all_lengths();
     all_faults();
     all_uncertainties();
@@ -321,6 +319,20 @@ int main(int count, char **words)
         for (uint64_t climate = 1; climate <= 4; climate++) one_history(new_series(0, kind, climate));
     all_runs();
     all_listings();
+}
+
+/* The part for reductions begins with the seed anew, so that it asks the same alone. */
+int main(int count, char **words)
+{
+    uint64_t number = count > 1 ? strtoull(words[1], NULL, 0) : 1;
+    int alone = count > 2 && strcmp(words[2], "tunisia") == 0;
+    reference_start();
+    seed(number);
+    if (!alone) all_ledgers();
+    seed(number);
+    all_entered();
+    all_tunisia();
+    all_accepted();
     printf("differential: %" PRIu64 " calls, 0 differences (seed %" PRIu64 ")\n", calls(), number);
     return 0;
 }

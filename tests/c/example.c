@@ -1,6 +1,6 @@
 /* A first program with the library: two years of the site that docs/METHOD.md works by hand, with the decay work of a run, a
- * month that was sorted, a correction factor from uncertainties, sludge whose dry matter was measured, and a shuffled file that
- * is put right.
+ * month that was sorted, a correction factor from uncertainties, sludge whose dry matter was measured, a shuffled file that is
+ * put right, and the reduction of a semi-aerobic site.
  * Build it with: gcc -Iinclude tests/c/example.c target/staticlib/liblandfill.a */
 #include "landfill.h"
 
@@ -131,6 +131,29 @@ static void shuffled_file(struct landfill_record year)
     print_work(work);
 }
 
+/* A semi-aerobic site in Tunisia that took 300 t of food a year for four years. Years 2 to 4 are reported, with the grams CO2e
+ * of their electricity and fuel; the file has no year 5. */
+static void reported_years(struct landfill_record year)
+{
+    enum { YEARS = 4 };
+    static const uint64_t electricity[3] = {1200000, 1250000, 1310000}, fuel[3] = {800000, 790000, 0};
+    uint8_t file[YEARS * LANDFILL_RECORD_BYTES], refused;
+    uint64_t reference, project, bound, years;
+    int64_t reduction;
+    year.climate = LANDFILL_TEMPERATE_DRY;
+    year.site_class = LANDFILL_SEMI_AEROBIC_MANAGED;
+    year.captured = 0;
+    for (year.period = 1; year.period <= YEARS; year.period++)
+        landfill_put_record(file + LANDFILL_RECORD_BYTES * (year.period - 1), &year);
+    expect("years 2 to 4", landfill_tunisia(file, sizeof file, 2, 4, electricity, 3, fuel, 3, &reference, &project, &reduction,
+                                            &bound, &years, &refused));
+    printf("years 2 to 4: reference %" PRIu64 " g CO2e, project %" PRIu64 " g CO2e\n", reference, project);
+    printf("  with electricity and fuel a reduction of %" PRId64 " g CO2e, give or take %" PRIu64 "\n", reduction, bound);
+    say("years 3 to 5", landfill_tunisia(file, sizeof file, 3, 5, electricity, 3, fuel, 3, &reference, &project, &reduction,
+                                         &bound, &years, &refused));
+    printf("  accepted years: %" PRIu64 "\n", years);
+}
+
 int main(void)
 {
     uint8_t ledger[LANDFILL_LEDGER_BYTES], first[LANDFILL_RECORD_BYTES], later[2 * LANDFILL_RECORD_BYTES];
@@ -186,5 +209,6 @@ int main(void)
     managed_year(year);
     sludge_year(year);
     shuffled_file(year);
+    reported_years(year);
     return 0;
 }

@@ -52,6 +52,8 @@ static void check_sizes(void)
     check("the size of a line or a listing", LANDFILL_LINE_BYTES == 90 && LANDFILL_LISTING_BYTES == 1201 * 90);
     check("the size of a sample or of an order", LANDFILL_SAMPLE_BYTES == 16 && LANDFILL_ORDER_BYTES == 8);
     check("a limit", LANDFILL_RECORDS == 1200 && LANDFILL_MASS_LIMIT == 1000000000);
+    check("the limit of grams", LANDFILL_GRAMS_LIMIT == (uint64_t)1000000 * 1000000000);
+    check("the limit of grams as a number without a sign", sizeof LANDFILL_GRAMS_LIMIT == 8 && 0 - LANDFILL_GRAMS_LIMIT > 0);
 }
 
 static void check_places(void)
@@ -336,6 +338,29 @@ static void check_kg(void)
     check("landfill_kg of what is no number", no_number != no_number);
 }
 
+/* The entry with the most words, declared once more: a compiler stops where the two declarations differ. */
+#ifdef __cplusplus
+extern "C" {
+#endif
+uint8_t landfill_tunisia(const uint8_t *, size_t, uint64_t, uint64_t, const uint64_t *, size_t, const uint64_t *, size_t,
+                         uint64_t *, uint64_t *, int64_t *, uint64_t *, uint64_t *, uint8_t *);
+#ifdef __cplusplus
+}
+#endif
+
+/* The call compiles with the numbers that a caller has; it is not made. */
+static void check_tunisia(void)
+{
+    static const uint8_t file[LANDFILL_RECORD_BYTES] = {0};
+    static const uint64_t electricity[1] = {LANDFILL_GRAMS_LIMIT}, fuel[1] = {0};
+    uint64_t reference, project, bound, years;
+    int64_t reduction;
+    uint8_t refused;
+    check("the answer of landfill_tunisia",
+          sizeof landfill_tunisia(file, sizeof file, 1, 1, electricity, 1, fuel, 1, &reference, &project, &reduction, &bound,
+                                  &years, &refused) == 1);
+}
+
 /* Every refusal that there is: its number, its name and its text. The numbers may have gaps. */
 static const struct {
     unsigned number;
@@ -368,6 +393,10 @@ static const struct {
     {20, LANDFILL_NOT_AN_ORDER, "The order does not name each of the eight types once."},
     {21, LANDFILL_NOT_WHOLE_RECORDS, "The file is not whole records of 48 bytes."},
     {22, LANDFILL_NO_ROOM_FOR_REPAIR, "There is too little room for the repaired file or for its report."},
+    {23, LANDFILL_NOT_YEARLY, "The record is monthly, where only yearly ones are taken."},
+    {24, LANDFILL_NOT_A_STRETCH,
+     "The years are none, are not all accepted, or do not have one entry each of electricity and of fuel."},
+    {25, LANDFILL_GRAMS_TOO_LARGE, "An entry of electricity or fuel is over 1,000,000,000,000,000 grams."},
 };
 static const size_t refusal_count = sizeof refusals / sizeof refusals[0];
 
@@ -429,6 +458,7 @@ int main(void)
     check_invert();
     check_changed();
     check_kg();
+    check_tunisia();
     check_refusals();
     return wrong;
 }

@@ -286,6 +286,21 @@ void reference_accept(struct reference_ledger *ledger, const uint8_t *record, ui
     put_output(out, ledger, answer);
 }
 
+/* The figure of a release by a record's factors, with a site class in the place of the record's. */
+uint64_t reference_figure(const uint8_t *record, uint8_t class, uint64_t x0)
+{
+    struct record it = fields(record);
+    it.class = class;
+    return figure_of(&it, x0);
+}
+
+/* The bound by a record's GWP, with n and T as a ledger has them. */
+uint64_t reference_bound(const uint8_t *record, const struct reference_ledger *after)
+{
+    struct record it = fields(record);
+    return bound_of(&it, after);
+}
+
 /* ---- Masses from sorted samples */
 
 /* The fraction of the type at place t in a sample, hundredths of a percent. */

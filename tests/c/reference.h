@@ -32,11 +32,14 @@ uint64_t reference_ceiling(uint64_t n, int t);
 bool reference_is_sound(const struct reference_ledger *ledger);
 uint8_t reference_refusal(const struct reference_ledger *ledger, const uint8_t *record, size_t record_len, size_t room);
 void reference_accept(struct reference_ledger *ledger, const uint8_t *record, uint8_t *out, struct reference_answer *answer);
+uint64_t reference_figure(const uint8_t *record, uint8_t class, uint64_t x0);
+uint64_t reference_bound(const uint8_t *record, const struct reference_ledger *after);
 uint64_t reference_total(const uint64_t of_types[8]);
 uint64_t reference_read(const uint8_t *bytes, int count);
 void reference_write(uint8_t *bytes, int count, uint64_t number);
 
-/* The entries of landfill.h, with the same meaning (entries.c; look-up, masses, factors and repair in reference.c). */
+/* The entries of landfill.h, with the same meaning (entries.c; look-up, masses, factors and repair in reference.c, the stretch
+ * of years in reference_years.c). */
 uint8_t reference_fresh(uint8_t *ledger, size_t ledger_len);
 uint8_t reference_take(uint8_t *ledger, size_t ledger_len, const uint8_t *record, size_t record_len, uint8_t *out,
                        size_t out_len, uint8_t *answer, size_t answer_len);
@@ -53,5 +56,8 @@ uint8_t reference_factor(uint8_t a, uint8_t b, uint8_t c, uint8_t d, uint8_t e, 
 uint8_t reference_factor_by_codes(uint8_t a, uint8_t b, uint8_t c, uint8_t d, uint8_t e, uint8_t g, uint8_t *factor);
 uint8_t reference_repair(const uint8_t *order, size_t order_len, const uint8_t *file, size_t file_len, uint8_t *out,
                          size_t out_len, uint8_t *report, size_t report_len, uint64_t *changed);
+uint8_t reference_tunisia(const uint8_t *file, size_t file_len, uint64_t first, uint64_t last, const uint64_t *electricity,
+                          size_t electricity_len, const uint64_t *fuel, size_t fuel_len, uint64_t *reference,
+                          uint64_t *project, int64_t *reduction, uint64_t *bound, uint64_t *years, uint8_t *refused);
 
 #endif

@@ -14,11 +14,14 @@ enum { PATTERN = 0xA5 };
 
 static const struct entries LIBRARY = {landfill_fresh,  landfill_take,   landfill_run,   landfill_totals,
                                        landfill_entry,  landfill_cell,   landfill_point, landfill_listing,
-                                       landfill_masses, landfill_factor, landfill_factor_by_codes, landfill_repair};
+                                       landfill_masses, landfill_factor, landfill_factor_by_codes, landfill_repair,
+                                       landfill_tunisia};
 static const struct entries REFERENCE = {reference_fresh,  reference_take,   reference_run,   reference_totals,
                                          reference_entry,  reference_cell,   reference_point, reference_listing,
-                                         reference_masses, reference_factor, reference_factor_by_codes, reference_repair};
-static const char *const NAMES[PLACES] = {"ledger", "records", "out", "answer", "text", "samples", "order", "report"};
+                                         reference_masses, reference_factor, reference_factor_by_codes, reference_repair,
+                                         reference_tunisia};
+static const char *const NAMES[PLACES] = {"ledger",  "records", "out",    "answer",      "text",
+                                          "samples", "order",   "report", "electricity", "fuel"};
 
 struct given given;
 static struct side before, library, reference;
@@ -28,26 +31,47 @@ static struct {
 } spans[PLACES];
 static uint64_t compared;
 
-uint8_t *lend(enum place place, size_t length)
+static void lend_from(enum place place, size_t start, size_t length)
 {
     if (length > LONGEST) exit(2);
     spans[place].lent = 1;
-    spans[place].start = ZONE + below(8);
+    spans[place].start = start;
     spans[place].length = length;
-    memset(before.rooms[place], PATTERN, spans[place].start);
-    memset(before.rooms[place] + spans[place].start + length, PATTERN, ZONE);
+    memset(before.rooms[place].bytes, PATTERN, start);
+    memset(before.rooms[place].bytes + start + length, PATTERN, ZONE);
     random_bytes(at(&before, place), length);
+}
+
+uint8_t *lend(enum place place, size_t length)
+{
+    lend_from(place, ZONE + below(8), length);
     return at(&before, place);
+}
+
+uint64_t *lend_list(enum place place, size_t count)
+{
+    lend_from(place, ZONE + 8 * below(2), 8 * count);
+    return list_at(&before, place);
 }
 
 uint8_t *at(struct side *side, enum place place)
 {
-    return side->rooms[place] + spans[place].start;
+    return side->rooms[place].bytes + spans[place].start;
+}
+
+uint64_t *list_at(struct side *side, enum place place)
+{
+    return side->rooms[place].list + spans[place].start / 8;
 }
 
 size_t length_of(enum place place)
 {
     return spans[place].length;
+}
+
+size_t count_of(enum place place)
+{
+    return spans[place].length / 8;
 }
 
 const uint8_t *left(enum place place)
@@ -58,6 +82,11 @@ const uint8_t *left(enum place place)
 uint64_t number_left(int which)
 {
     return library.numbers.whole[2 * which - 1];
+}
+
+uint8_t byte_left(void)
+{
+    return library.numbers.factors[1][0];
 }
 
 uint64_t answer_left(void)
@@ -78,13 +107,13 @@ static size_t used(enum place place)
 
 static int differs(const struct side *one, const struct side *other, enum place place)
 {
-    return spans[place].lent && memcmp(one->rooms[place], other->rooms[place], used(place)) != 0;
+    return spans[place].lent && memcmp(one->rooms[place].bytes, other->rooms[place].bytes, used(place)) != 0;
 }
 
 static int is_zone(const struct side *side, enum place place, size_t from, size_t to)
 {
     for (size_t i = from; i < to; i++)
-        if (side->rooms[place][i] != PATTERN) return 0;
+        if (side->rooms[place].bytes[i] != PATTERN) return 0;
     return 1;
 }
 
@@ -103,7 +132,7 @@ static int numbers_differ(void)
 static void print_bytes(const char *title, const struct side *side, enum place place)
 {
     size_t length = spans[place].length;
-    const uint8_t *bytes = side->rooms[place] + spans[place].start;
+    const uint8_t *bytes = side->rooms[place].bytes + spans[place].start;
     printf("  %s%s\n", title, zones_stand(side, place) ? "" : ", a red zone written");
     for (size_t i = 0; i < length; i++)
         printf("%s%02x%s", i % 48 == 0 ? "    " : " ", bytes[i], i % 48 == 47 || i + 1 == length ? "\n" : "");
@@ -113,7 +142,7 @@ static void print_bytes(const char *title, const struct side *side, enum place p
 static void print_first(enum place place)
 {
     for (size_t i = 0; i < used(place); i++) {
-        uint8_t one = library.rooms[place][i], other = reference.rooms[place][i];
+        uint8_t one = library.rooms[place].bytes[i], other = reference.rooms[place].bytes[i];
         if (one == other) continue;
         ptrdiff_t from_start = (ptrdiff_t)(i - spans[place].start);
         printf("first at place %td of %s: library %02x, reference %02x\n", from_start, NAMES[place], one, other);
@@ -127,7 +156,7 @@ static void print_numbers(const char *title, const struct side *side)
     uint64_t real[7];
     memcpy(real, it->real, sizeof real);
     printf("%s: answer %" PRIu64 "; whole", title, side->answer);
-    for (int i = 0; i < 7; i++) printf(" %" PRIx64, it->whole[i]);
+    for (int i = 0; i < 11; i++) printf(" %" PRIx64, it->whole[i]);
     printf("; real");
     for (int i = 0; i < 7; i++) printf(" %" PRIx64, real[i]);
     printf("; masses");
@@ -147,7 +176,7 @@ static void print_difference(const char *name)
     printf(", figure %" PRIu64 ", bound %" PRIu64 ", total %" PRIu64, given.figure, given.bound, given.total);
     printf(", uncertainties");
     for (int i = 0; i < 6; i++) printf(" %u", given.uncertainties[i]);
-    printf("\n");
+    printf(", years %" PRIu64 " to %" PRIu64 "\n", given.first, given.last);
     print_numbers("library  ", &library);
     print_numbers("reference", &reference);
     for (enum place place = 0; place < PLACES; place++)
@@ -165,7 +194,7 @@ static void share(struct side *side)
 {
     memset(&side->numbers, PATTERN, sizeof side->numbers);
     for (enum place place = 0; place < PLACES; place++)
-        if (spans[place].lent) memcpy(side->rooms[place], before.rooms[place], used(place));
+        if (spans[place].lent) memcpy(side->rooms[place].bytes, before.rooms[place].bytes, used(place));
 }
 
 static void end(void)

@@ -6,20 +6,26 @@
 #include <stddef.h>
 #include <stdint.h>
 
-enum place { LEDGER, RECORDS, OUT, ANSWER, TEXT, SAMPLES, ORDER, REPORT, PLACES };
-enum { ZONE = 64, LONGEST = 524288, ROOM = ZONE + 8 + LONGEST + ZONE };
+enum place { LEDGER, RECORDS, OUT, ANSWER, TEXT, SAMPLES, ORDER, REPORT, ELECTRICITY, FUEL, PLACES };
+enum { ZONE = 64, LONGEST = 540000, ROOM = ZONE + 8 + LONGEST + ZONE };
 
 /* The numbers that an entry writes behind pointers stand at the odd places; the even ones are red zones. A place of masses
- * or factors is a row of eight, and where an entry writes one of them, it is the first. */
+ * or factors is a row of eight, and where an entry writes one of them, or one byte of another kind, it is the first. */
 struct numbers {
-    uint64_t whole[7];
+    uint64_t whole[11];
     double real[7];
     uint32_t masses[3][8];
     uint8_t factors[3][8];
 };
 
+/* A room holds a buffer of bytes, or a list of numbers, which is aligned. */
+union room {
+    uint8_t bytes[ROOM];
+    uint64_t list[ROOM / 8];
+};
+
 struct side {
-    uint8_t rooms[PLACES][ROOM];
+    union room rooms[PLACES];
     struct numbers numbers;
     uint64_t answer;
 };
@@ -31,6 +37,7 @@ struct given {
     double kg;
     uint64_t figure, bound, total;
     uint8_t uncertainties[6]; /* a, b, c, d, e and g: percentages, or from c on codes */
+    uint64_t first, last;     /* years */
 };
 
 /* The entries of landfill.h, of either side. */
@@ -47,6 +54,8 @@ struct entries {
     uint8_t (*factor)(uint8_t, uint8_t, uint8_t, uint8_t, uint8_t, uint8_t, uint8_t *);
     uint8_t (*factor_by_codes)(uint8_t, uint8_t, uint8_t, uint8_t, uint8_t, uint8_t, uint8_t *);
     uint8_t (*repair)(const uint8_t *, size_t, const uint8_t *, size_t, uint8_t *, size_t, uint8_t *, size_t, uint64_t *);
+    uint8_t (*tunisia)(const uint8_t *, size_t, uint64_t, uint64_t, const uint64_t *, size_t, const uint64_t *, size_t,
+                       uint64_t *, uint64_t *, int64_t *, uint64_t *, uint64_t *, uint8_t *);
 };
 
 typedef void call(const struct entries *entries, struct side *side);
@@ -56,12 +65,18 @@ extern struct given given;
 /* Lends a buffer of so many random bytes for the next call, and gives its bytes to be filled. */
 uint8_t *lend(enum place place, size_t length);
 
-/* A lent buffer's bytes as one side has them, its length, and its bytes after the last call; the first, second or third whole
- * number that the last call has written, and what it answered. */
+/* The same for a list of so many numbers. */
+uint64_t *lend_list(enum place place, size_t count);
+
+/* A lent buffer's bytes as one side has them, its length, and its bytes after the last call; the numbers of a lent list, and how
+ * many there are; the first, second, .. fifth whole number that the last call has written, its byte, and what it answered. */
 uint8_t *at(struct side *side, enum place place);
 size_t length_of(enum place place);
 const uint8_t *left(enum place place);
+uint64_t *list_at(struct side *side, enum place place);
+size_t count_of(enum place place);
 uint64_t number_left(int which);
+uint8_t byte_left(void);
 uint64_t answer_left(void);
 
 /* Makes the call on both sides and compares; prints the difference in full and ends the program where there is one.

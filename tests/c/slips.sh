@@ -14,6 +14,18 @@ for file in $differential; do
     objects="$objects $target/$file.o"
 done
 
+# Builds the test with the stand-in, one of whose files has an edit by sed; its other files are linked as they are.
+build_slip() {
+    sed "$2" "$target/standin/$1" >"$target/slip.c"
+    ! cmp -s "$target/standin/$1" "$target/slip.c" || stop "nothing to edit in $1: $2"
+    "$gcc" -std=c11 -O2 -Iinclude -I"$target/standin" -c -o "$target/slip.o" "$target/slip.c"
+    others=''
+    for other in reference entries reference_years standin; do
+        [ "$other.c" = "$1" ] || others="$others $target/standin/$other.o"
+    done
+    build slip $objects "$target/slip.o" $others
+}
+
 # Builds header.c with a copy of landfill.h that has an edit by sed.
 build_header() {
     mkdir -p "$target/wrong"
@@ -31,12 +43,14 @@ while IFS='|' read -r slip file edit; do
         build_header "$edit"
         verdict='^header: .* is wrong$'
     else
-        standin "$file" "$edit"
-        build slip $objects "$target/standin/libstandin.a"
+        build_slip "$file" "$edit"
         verdict=', 1 difference$'
     fi
+    # A slip in the years is looked for by the part that asks for years.
+    part=''
+    [ "$file" != reference_years.c ] || part="$seed tunisia"
     status=0
-    run "$target/slip" >"$target/slip.txt" </dev/null || status=$?
+    run "$target/slip" $part >"$target/slip.txt" </dev/null || status=$?
     if [ "$status" -eq 1 ] && tail -n 1 "$target/slip.txt" | grep -q "$verdict"; then
         caught=$((caught + 1))
     else

@@ -71,3 +71,11 @@ uint8_t landfill_repair(const uint8_t *order, size_t order_len, const uint8_t *f
 {
     return reference_repair(order, order_len, file, file_len, out, out_len, report, report_len, changed);
 }
+
+uint8_t landfill_tunisia(const uint8_t *file, size_t file_len, uint64_t first, uint64_t last, const uint64_t *electricity,
+                         size_t electricity_len, const uint64_t *fuel, size_t fuel_len, uint64_t *reference,
+                         uint64_t *project, int64_t *reduction, uint64_t *bound, uint64_t *years, uint8_t *refused)
+{
+    return reference_tunisia(file, file_len, first, last, electricity, electricity_len, fuel, fuel_len, reference, project,
+                             reduction, bound, years, refused);
+}

@@ -13,6 +13,7 @@ ghost use Rattle.image.specs.Image.{imageBytes, freshLeft, ledgerOf};
 ghost use Rattle.samples.specs.Samples.{sortedOf};
 ghost use Rattle.uncertainty.specs.Uncertainty.{entering, byPercentages, byCodes};
 ghost use Rattle.order.specs.Repair.{repairedOf, outLeft, reportLeft};
+ghost use Rattle.tunisia.specs.Reduction.{reductionOf};
 ghost use Rattle.lines.specs.Listing.{listedOf, textOf};
 ghost use Rattle.calls.specs.Calls.{takeHere, takeImage, takeOut, takeAnswer, runHere, runImage};
 ghost use Rattle.landfill.specs.Entries.{cellOf};
@@ -172,6 +173,41 @@ pub extern "C" fn landfill_repair(
     let repaired = order::repair(order, file, out, report);
     *changed = repaired.changed;
     repaired.refusal
+}
+
+// Answers 0 and the reference, project, reduction and bound of the years first to last of a file, or 24 or 25 and zeros; also how many
+// years were accepted, and the refusal of the record after them, 0 if none.
+#[no_mangle]
+pub extern "C" fn landfill_tunisia(
+    file: &[u8],
+    first: u64,
+    last: u64,
+    electricity: &[u64],
+    fuel: &[u64],
+    reference: &mut u64,
+    project: &mut u64,
+    reduction: &mut i64,
+    bound: &mut u64,
+    years: &mut u64,
+    refused: &mut u8,
+) -> u8
+    ensures { λ r. ⌜ r ≡ reductionOf (now (file .entry)) first last (now (electricity .entry)) (now (fuel .entry)) .refusal ⌝ }
+    ensures { λ _. ⌜ now (reference .exit) ≡ reductionOf (now (file .entry)) first last (now (electricity .entry)) (now (fuel .entry)) .reference ⌝ }
+    ensures { λ _. ⌜ now (project .exit) ≡ reductionOf (now (file .entry)) first last (now (electricity .entry)) (now (fuel .entry)) .project ⌝ }
+    ensures { λ _. ⌜ now (reduction .exit) ≡ reductionOf (now (file .entry)) first last (now (electricity .entry)) (now (fuel .entry)) .reduction ⌝ }
+    ensures { λ _. ⌜ now (bound .exit) ≡ reductionOf (now (file .entry)) first last (now (electricity .entry)) (now (fuel .entry)) .bound ⌝ }
+    ensures { λ _. ⌜ now (years .exit) ≡ reductionOf (now (file .entry)) first last (now (electricity .entry)) (now (fuel .entry)) .years ⌝ }
+    ensures { λ _. ⌜ now (refused .exit) ≡ reductionOf (now (file .entry)) first last (now (electricity .entry)) (now (fuel .entry)) .refused ⌝ }
+{
+    let over = tunisia::reduction_over(file, first, last, electricity, fuel);
+    let less = over.reduction;
+    *reference = over.reference;
+    *project = over.project;
+    *reduction = less;
+    *bound = over.bound;
+    *years = over.years;
+    *refused = over.refused;
+    over.refusal
 }
 
 // Answers 0 and a figure's point of the chart, or 13 and zeros.

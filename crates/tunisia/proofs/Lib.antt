@@ -6,3 +6,4 @@ pub mod OverRun
 pub mod MidYears
 pub mod ByYear
 pub mod Answers
+pub mod Ranges

@@ -5,6 +5,8 @@ mod grams;
 mod year;
 
 ghost use mathlib.Core.Path.{_≡_};
+ghost use Prim.Native.Nat.{_*_, _^_, _≤_};
+ghost use lib.Signed.{mag};
 ghost use Rattle.tunisia.specs.Reduction.{reductionOf};
 use accepted::accepted_years;
 use grams::less_all;
@@ -36,6 +38,7 @@ pub fn reduction_over(
     fuel: &[u64],
 ) -> Reduction
     ensures { λ r. ⌜ r ≡ reductionOf (now (file .entry)) first last (now (electricity .entry)) (now (fuel .entry)) ⌝ }
+    ensures { λ r. ⌜ mag (r .reduction) ≤ 72 * 10 ^ 17 ⌝ }
 {
     let accepted = accepted_years(file, first, last);
     let refusal = stretch_refusal(first, last, accepted.years, electricity, fuel);

@@ -9,6 +9,7 @@ use Rattle.tunisia.specs.Reduction.{gramsLight, stretchRefusal}
 use Rattle.tunisia.proofs.Sizes.{read-back}
 use Rattle.tunisia.proofs.Entries.{entries-light, entries-count}
 use Rattle.tunisia.proofs.Answers.{refused-is, answered-is}
+use Rattle.tunisia.proofs.Ranges.{with-size}
 use Rattle.tunisia.proofs.reduction_over.Statement.{statement}
 use Rattle.tunisia.proofs.reduction_over.Tie as tie
 
@@ -29,14 +30,16 @@ returns-2 c =
     let s = totals .before .before .before .before in
     let taken = s .before .accepted-years in
     let a = s .before .before .before .before .before .args in
-    answered-is (a .file .now) (a .first) (a .last) (a .electricity .now) (a .fuel .now) (taken .ensures .0) (s .stretch-refusal .ensures) (search needs)
-    (read-back (c .less-all .ok) ∙ c .less-all .ensures) (totals .before .total .ensures .0) (totals .total2 .ensures .0)
+    with-size (a .file .now) (a .first) (a .last) (a .electricity .now) (a .fuel .now)
+    (answered-is (a .file .now) (a .first) (a .last) (a .electricity .now) (a .fuel .now) (taken .ensures .0) (s .stretch-refusal .ensures) (search needs)
+    (read-back (c .less-all .ok) ∙ c .less-all .ensures) (totals .before .total .ensures .0) (totals .total2 .ensures .0))
 
 pub reduction-over-spec : {M : Type 1} → statement M
 reduction-over-spec =
     tie.close
     (tie.spec (λ c κs. search needs) (λ c κs. search needs)
     (λ c. let s = c .before in let taken = s .before .accepted-years in let a = s .before .before .before .before .before .args in
-    refused-is (a .file .now) (a .first) (a .last) (a .electricity .now) (a .fuel .now) (taken .ensures .0) (s .stretch-refusal .ensures) (c .if1 .taken))
+    with-size (a .file .now) (a .first) (a .last) (a .electricity .now) (a .fuel .now)
+    (refused-is (a .file .now) (a .first) (a .last) (a .electricity .now) (a .fuel .now) (taken .ensures .0) (s .stretch-refusal .ensures) (c .if1 .taken)))
     (λ c κs. light (c .before) .0) (λ c κs. light (c .before .before) .1)
     (λ c κs. let taken = c .before .before .before .before .before .accepted-years .ensures .1 .0 in omega (arith, taken .0, taken .1, c .total2 .ensures .1, c .before .total .ensures .1)) returns-2)
