@@ -5,13 +5,17 @@
 """
 import sys
 from collections.abc import Callable
+from itertools import cycle, islice
 from typing import NamedTuple
 
 import reference
+import tunisia
 from reference import Ledger, Year, number
 
 LONGEST = 65536  # bytes of a payload, and of an output buffer
 IMAGE = 200  # bytes of a ledger image
+HEAD = 22  # bytes before the grams of a stretch
+MOST_ENTRIES = 1300  # of electricity, and of fuel
 
 
 def image(ledger):
@@ -88,6 +92,19 @@ def repair_line(payload):
     return spaced([answer.refusal, answer.changed]) + f" {hexed(answer.output)} {hexed(answer.report)}"
 
 
+def read_stretch(payload):
+    """The file, the first and last year, and the entries of electricity and fuel, which take the grams in turn."""
+    k = min(number(payload, 20, 2), (len(payload) - HEAD) // 8)
+    end = HEAD + 8 * k
+    turn = cycle([number(payload, at, 8) for at in range(HEAD, end, 8)] or [0])
+    electricity, fuel = (tuple(islice(turn, min(number(payload, at, 2), MOST_ENTRIES))) for at in (16, 18))
+    return payload[end:], number(payload, 0, 8), number(payload, 8, 8), electricity, fuel
+
+
+def reduction_line(payload):
+    return spaced(tunisia.reduction(*read_stretch(payload)))
+
+
 def fields(ledger):
     return [ledger.n, ledger.kind, ledger.climate, *ledger.year, *ledger.T, *ledger.R, *ledger.released]
 
@@ -117,6 +134,7 @@ KINDS = {
     "u": Kind(factor_line, 6, 6),
     "k": Kind(factor_by_codes_line, 6, 6),
     "o": Kind(repair_line, 9, LONGEST),
+    "t": Kind(reduction_line, HEAD, LONGEST),
 }
 
 

@@ -5,8 +5,8 @@
   make_cases.py --store
   make_cases.py --check
 
-GROUP is base, door, samples, released, months, uncertainty, sludge, orders, work, all of these, every-sum, every-rate
-or every-order.
+GROUP is base, door, samples, released, months, uncertainty, sludge, orders, work, tunisia, all of these, every-sum,
+every-rate or every-order.
 DIR gets cases.bin and cases.txt, and a pair stop-*.bin, stop-*.txt for each way in which input cannot be read.
 Every run with the same seed writes the same bytes; the stored cases are those of all groups with seed 1. Three groups
 are not among them: every-sum has a case for each sum of squares that uncertainties come to, every-rate a look-up of
@@ -30,6 +30,8 @@ from reference import listing, little
 from released_cases import released
 from samples_cases import samples
 from sludge_cases import sludge
+from tunisia_cases import years
+from tunisia_faults import years_refused
 from uncertainty_cases import every_sum, uncertainty
 from work_cases import work
 from work_faults import work_stopped
@@ -37,6 +39,7 @@ from work_faults import work_stopped
 ROOT = os.path.join(os.path.dirname(os.path.abspath(__file__)), "..")
 GROUPS = {"base": [base], "door": [door], "samples": [samples], "released": [released], "months": [months]}
 GROUPS |= {"uncertainty": [uncertainty], "sludge": [sludge], "orders": [orders], "work": [work, work_stopped]}
+GROUPS["tunisia"] = [years, years_refused]
 GROUPS["all"] = [cases_of for group in GROUPS.values() for cases_of in group]
 GROUPS["every-sum"] = [every_sum]
 GROUPS["every-rate"] = [every_rate]
@@ -58,6 +61,8 @@ STOPS = {
     "codes-7": FIRST + case("k", b"\0\0\1\1\1\1\1") + FIRST,
     "order-8": FIRST + case("o", bytes(8)) + FIRST,
     "order-long": FIRST + b"o" + little([(cases.LONGEST + 1, 4)]),
+    "years-21": FIRST + case("t", bytes(cases.HEAD - 1)) + FIRST,
+    "years-long": FIRST + b"t" + little([(cases.LONGEST + 1, 4)]),
     "payload": FIRST + FIRST[:-1],
 }
 

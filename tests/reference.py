@@ -2,6 +2,7 @@
 
 One function for each rule, in the documents' order and with their letters. Numbers are exact, and everything is a
 value: an output buffer goes in as bytes and comes back as bytes. Type j stands at place j - 1 of every list of eight.
+Request i is in tunisia.py, over the rules of this file.
 """
 import os
 import sys
@@ -155,9 +156,13 @@ def figure_of(record, x0):
     return x2 * 4 * record.GWP // 3000
 
 
-def bound_of(record, after):
-    """The bound, with n and T as they stand after this record."""
-    B = sum(after.n + 1 + after.n * t // 10**9 for t in after.T if t > 0)
+def B_of(ledger):
+    """B, with n and T of a ledger."""
+    return sum(ledger.n + 1 + ledger.n * t // 10**9 for t in ledger.T if t > 0)
+
+
+def bound_of(record, B):
+    """The bound in grams CO2e."""
     return 3 + B * 4 * record.GWP // 3000
 
 
@@ -181,7 +186,7 @@ def step(ledger, data, output):
     record = read_record(data)
     after, releases = take(ledger, record)
     x0 = sum(releases)
-    figure, bound = figure_of(record, x0), bound_of(record, after)
+    figure, bound = figure_of(record, x0), bound_of(record, B_of(after))
     written = output_record(record, x0, figure, bound, after)
     return Step(after, 0, releases, x0, figure, bound, written + output[BYTES:])
 
@@ -215,12 +220,13 @@ def run(ledger, data, output):
 # "Refusal numbers, tested in this order"
 
 REFUSALS = {  # every number that there is, by what is refused; they may have gaps
-    "record": (1, 2, 3, 4, 5, 6, 7, 8, 17, 9),
+    "record": (1, 2, 3, 4, 5, 23, 6, 7, 8, 17, 9),  # 23 in tunisia.py alone
     "cell": (10, 11, 12),
     "point": (13,),
     "samples": (14, 15, 16),
     "uncertainties": (18, 19),
     "repair": (20, 21, 22),
+    "stretch": (24, 25),
 }
 
 

@@ -4,8 +4,8 @@
 It holds the refusal numbers to those of docs/METHOD.md, README.md and include/landfill.h.
 
 Of document 02 it holds masses from samples, the carbon released so far, months that share the year's factors, the
-correction factor from uncertainties, sludge with a measured dry matter, the shuffled files put right, and the decay
-work of a run.
+correction factor from uncertainties, sludge with a measured dry matter, the shuffled files put right, the decay work
+of a run, and the Tunisian reference method.
 
 Prints ok and exits 0, or stops at the first check that fails.
 """
@@ -26,6 +26,7 @@ import refusal_checks
 import retold
 import samples_cases
 import sludge_checks
+import tunisia_checks
 import uncertainty_checks
 import work_checks
 from checks import NO_VALUES, NOTHING, ROOM, check, fields_of, offered, told_again
@@ -373,6 +374,11 @@ def main():
     work_checks.last_milligrams()
     work_checks.refused()
     work_checks.unsound()
+    tunisia_checks.worked()
+    tunisia_checks.years_alone()
+    tunisia_checks.stretches()
+    tunisia_checks.limits()
+    tunisia_checks.months()
     tables()
     in_whole_numbers()
     unlikely()
@@ -380,6 +386,7 @@ def main():
     sludge_checks.every_byte()
     sludge_checks.greatest()
     work_checks.long_runs()
+    tunisia_checks.greatest()
     rng = random.Random(1)
     for kind, climate in KINDS_AND_CLIMATES:
         for part in (Fraction(0), Fraction(rng.randint(1, 98), 99), 1 - Fraction(1, 10**9), 1 - Fraction(1, 10**40)):
@@ -399,6 +406,7 @@ def main():
     work_checks.one_record(rng)
     for kind, climate in KINDS_AND_CLIMATES:
         work_checks.at_random(rng, kind, climate)
+    tunisia_checks.at_random(rng)
     cases_page()
     uncertainty_checks.every_sum()
     order_checks.every_order(rng)

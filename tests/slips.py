@@ -1,8 +1,8 @@
 #!/usr/bin/env python3
 """A test of the selftest: changes each number of the reference by one, up and down, and sees the selftest fail.
 
-And one of the stored cases of requests g and h: sees them answered otherwise by every wrong reading in order_slips.py
-and in work_slips.py.
+And one of the stored cases of requests g, h and i: sees them answered otherwise by every wrong reading in
+order_slips.py, in work_slips.py and in tunisia_slips.py.
 
   slips.py    names every change and reading that goes unseen, then counts; status 1 where there is one (some minutes)
 """
@@ -14,12 +14,13 @@ import sys
 import tempfile
 
 import order_slips
+import tunisia_slips
 import work_slips
 
 ROOT = os.path.join(os.path.dirname(os.path.abspath(__file__)), "..")
-FILE = os.path.join("tests", "reference.py")
+FILES = [os.path.join("tests", name) for name in ("reference.py", "tunisia.py")]
 SAME = "range(16, (48 - 1), 4)"  # the one change that changes nothing
-MISREAD = {"g": order_slips, "h": work_slips}  # wrong readings of a request
+MISREAD = {"g": order_slips, "h": work_slips, "i": tunisia_slips}  # wrong readings of a request
 
 
 def numbers(node):
@@ -45,32 +46,40 @@ def slips(lines):
                 yield node.lineno - 1, slip
 
 
-def passes(copy, lines):
-    """Whether the selftest is content with these lines of the reference."""
-    with open(os.path.join(copy, FILE), "w", encoding="utf-8") as file:
+def passes(copy, name, lines):
+    """Whether the selftest is content with these lines of a file of the reference."""
+    with open(os.path.join(copy, name), "w", encoding="utf-8") as file:
         file.write("\n".join(lines))
     words = [sys.executable, "-B", os.path.join(copy, "tests", "selftest.py")]
     return subprocess.run(words, capture_output=True, check=False).returncode == 0
 
 
-def main():
-    with open(os.path.join(ROOT, FILE), encoding="utf-8") as file:
+def changed(copy, name):
+    """The changes of a file, each with its line's number and whether it goes unseen; the file is then as it was."""
+    with open(os.path.join(ROOT, name), encoding="utf-8") as file:
         lines = file.read().split("\n")
+    if not passes(copy, name, lines):
+        raise SystemExit("the selftest fails with nothing changed")
+    for at, slip in slips(lines):
+        yield f"{name}:{at + 1}: {slip.strip()}", passes(copy, name, lines[:at] + [slip] + lines[at + 1 :])
+    with open(os.path.join(copy, name), "w", encoding="utf-8") as file:
+        file.write("\n".join(lines))
+
+
+def main():
     with tempfile.TemporaryDirectory() as copy:
         for part in ("tests", "tools", "docs", "include"):
             shutil.copytree(os.path.join(ROOT, part), os.path.join(copy, part))
         shutil.copy(os.path.join(ROOT, "README.md"), copy)
-        if not passes(copy, lines):
-            raise SystemExit("the selftest fails with nothing changed")
-        tried = list(slips(lines))
-        unseen = [(at, slip) for at, slip in tried if passes(copy, lines[:at] + [slip] + lines[at + 1 :])]
+        tried = [change for name in FILES for change in changed(copy, name)]
     misread = [(request, name) for request, readings in MISREAD.items() for name in readings.unseen()]
-    for at, slip in unseen:
-        print(f"NOT SEEN: {FILE}:{at + 1}: {slip.strip()}")
+    for slip, unseen in tried:
+        if unseen:
+            print(f"NOT SEEN: {slip}")
     for request, name in misread:
         print(f"NOT SEEN: request {request} read as: {name}")
     count = len(tried) + sum(len(readings.READINGS) for readings in MISREAD.values())
-    missed = len(unseen) + len(misread)
+    missed = sum(unseen for _, unseen in tried) + len(misread)
     print(f"slips: {count - missed} seen, {missed} unseen")
     return 1 if missed else 0
 

@@ -43,6 +43,7 @@ fn judged(letter: u8, length: usize) -> u8
         b'p' => within(16, length, 16),
         b'm' => within(9, length, LONGEST),
         b'o' => within(order_cases::HEAD, length, LONGEST),
+        b't' => within(tunisia_cases::HEAD, length, LONGEST),
         b'u' | b'k' => within(
             uncertainty_cases::PAYLOAD,
             length,
@@ -63,6 +64,7 @@ fn put_line(letter: u8, payload: &[u8]) {
         b'p' => door_cases::point(payload),
         b'm' => samples_cases::masses(payload),
         b'o' => order_cases::repair(payload),
+        b't' => tunisia_cases::reduction(payload),
         b'u' => uncertainty_cases::by_percentages(payload),
         b'k' => uncertainty_cases::by_codes(payload),
         _ => (),

@@ -9,7 +9,7 @@ pub judged-spec : {M : Type 1} → statement M
 judged-spec =
     tie.close
     (tie.spec (λ c κs. search needs) (λ c κs. search needs) (λ c κs. search needs) (λ c κs. search needs)
-    (λ c κs. search needs) (λ c κs. search needs) (λ c κs. search needs) (λ c κs. search needs) (λ c κs. search needs)
+    (λ c κs. search needs) (λ c κs. search needs) (λ c κs. search needs) (λ c κs. search needs) (λ c κs. search needs) (λ c κs. search needs)
     (λ c fine. le-trans (c .within .ensures fine) (lit≤ tt)) (λ c. search needs) (λ c. search needs) (λ c. search needs)
     (λ c fine. le-trans (c .within5 .ensures fine) (lit≤ tt)) (λ c fine. le-trans (c .within6 .ensures fine) (lit≤ tt))
-    (λ c. search needs) (λ c. search needs) (λ c fine. le-trans (c .within9 .ensures fine) (lit≤ tt)) (λ c. search needs))
+    (λ c. search needs) (λ c. search needs) (λ c. search needs) (λ c fine. le-trans (c .within10 .ensures fine) (lit≤ tt)) (λ c. search needs))
