@@ -8,7 +8,6 @@ use native.Mathlib.Numerals.{add-one}
 use native.Mathlib.Omega.{arith}
 use lib.ListN.{length}
 use lib.Seq.{getD-at}
-use Rattle.numbers.specs.Eight.{sumOf}
 use Rattle.numbers.specs.Fraction.{Fraction, total, WithinBound}
 use Rattle.numbers.specs.Lists.{Each}
 use Rattle.numbers.proofs.Fraction.{total-same}
@@ -35,7 +34,7 @@ use Rattle.promise_three.proofs.Figure.{beside-sums, chain}
 
 -- an earlier record's exact figure
 module _ (d : ℕ → Fraction) (records : List (List ℕ)) (bytes : List ℕ) (n : ℕ) (low : 1 ≤ n) (high : n ≤ length records) where
-  release-kept : (t : ℕ) → exactReleaseAt d (records ++ (bytes ∷ [])) n t ≡ exactReleaseAt d records n t
+  pub release-kept : (t : ℕ) → exactReleaseAt d (records ++ (bytes ∷ [])) n t ≡ exactReleaseAt d records n t
   unfolding exactReleaseAt exactRelease
   release-kept t =
       rw (
@@ -73,18 +72,22 @@ module _ (d : ℕ → Fraction) (o : Offering) (bytes : List ℕ) (room : ℕ) (
           let old = near (after (o .ledger) bytes) t (d t) place (chosen t place i) o r (alike-before o bytes room r e) in
           beside-decaying d o bytes t place i old (both-next (d t) o bytes t place (chosen t place i) old .1)
 
+  -- its releases together are beside their exact sum
+  pub newest-beside : Beside (total (exactReleaseAt d records count) 8) (x0Of (o .ledger) bytes) (BOf count (broughtAt (after (o .ledger) bytes)))
+  unfolding x0Of BOf
+  newest-beside = beside-sums (exactReleaseAt d records count) (release (o .ledger) bytes) margin 8 beside-exact
+
   abbrev answer : Answer
   answer = acceptedOf (o .ledger) bytes
 
   newest-within : WithinBound (exactFigure d records count) (answer .figure) (answer .bound)
-  unfolding exactFigure acceptedOf x0Of BOf after
+  unfolding exactFigure acceptedOf after
   newest-within =
       let back : count - 1 ≡ length (recordsIn o) = rw (all-counted o) (omega arith) in
       let n : o .ledger .n + 1 ≡ count = rw (n-counts o r, add-one) in
       rw (back, getD-at (recordsIn o) bytes [] [] (length (recordsIn o)) refl, n)
       (chain (factorsOf bytes) (ranged (factorsOf bytes) (step.accepted-meets (o .ledger) bytes room e .ranges))
-      (total (exactReleaseAt d records count) 8) (sumOf (release (o .ledger) bytes) 8) (sumOf margin 8)
-      (beside-sums (exactReleaseAt d records count) (release (o .ledger) bytes) margin 8 beside-exact))
+      (total (exactReleaseAt d records count) 8) (x0Of (o .ledger) bytes) (BOf count (broughtAt (after (o .ledger) bytes))) newest-beside)
 
 -- the answer to record i
 abbrev pub Published : (d : ℕ → Fraction) → List (List ℕ) → (i : ℕ) → Turn → Type 0

@@ -11,6 +11,7 @@ use Rattle.promise_uncertainty.proofs.Proved.{uncertainty-promise}
 use Rattle.promise_sludge.proofs.Proved.{sludge-promise}
 use Rattle.promise_order.proofs.Proved.{order-promise}
 use Rattle.promise_work.proofs.Proved.{work-promise}
+use Rattle.promise_tunisia.proofs.Proved.{tunisia-promise}
 
 pub promises : Promises
 promises =
@@ -26,4 +27,5 @@ promises =
       measured-sludge = sludge-promise;
       shuffled-files = order-promise;
       decay-work = work-promise;
+      tunisian-reductions = tunisia-promise;
     }

@@ -11,6 +11,7 @@ use Rattle.promise_uncertainty.specs.Promise.{UncertaintyPromise}
 use Rattle.promise_sludge.specs.Promise.{SludgePromise}
 use Rattle.promise_order.specs.Promise.{OrderPromise}
 use Rattle.promise_work.specs.Promise.{WorkPromise}
+use Rattle.promise_tunisia.specs.Promise.{TunisiaPromise}
 
 pub record Promises : Type 0 where
   -- Demand 3, and request b of document 02: released carbon.
@@ -35,3 +36,5 @@ pub record Promises : Type 0 where
   pub shuffled-files : OrderPromise
   -- Document 02, request h: how much decay work a run did.
   pub decay-work : WorkPromise
+  -- Document 02, request i: the Tunisian reference method.
+  pub tunisian-reductions : TunisiaPromise

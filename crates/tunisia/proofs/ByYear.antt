@@ -70,13 +70,13 @@ as-yearly-month (suc q) z = as-yearly-some (suc q) true (λ n. omega arith) z
 
 -- what the turn at the head decides in this mode
 module _ (l : Ledger) (bytes : List ℕ) (rest : List (List ℕ)) where
-  goes-on : refusalByYear l bytes ≡ 0
+  pub goes-on : refusalByYear l bytes ≡ 0
       → (leading (turnsByYear l (bytes ∷ rest)) ≡ acceptedTurn l bytes ∷ leading (turnsByYear (acceptedOf l bytes .ledger) rest))
       × (ending (turnsByYear l (bytes ∷ rest)) ≡ ending (turnsByYear (acceptedOf l bytes .ledger) rest))
   unfolding turnsByYear turnByYear leading ending acceptedOf
   goes-on e = (rw e, rw e)
 
-  stops : (refusalByYear l bytes ≡ 0 → ⊥)
+  pub stops : (refusalByYear l bytes ≡ 0 → ⊥)
       → (leading (turnsByYear l (bytes ∷ rest)) ≡ []) × (ending (turnsByYear l (bytes ∷ rest)) ≡ refusalByYear l bytes)
   unfolding turnsByYear turnByYear leading ending refusedOf
   stops e = let ne = ne-eqb (refusalByYear l bytes) 0 e in (simp ne, simp ne)

@@ -36,16 +36,16 @@ lastX0 x0 [] = x0
 lastX0 x0 (turn ∷ rest) = lastX0 (turn .answer .x0) rest
 
 -- One record more has one year more.
-years-more : (x0 : ℕ) (done : List Turn) (turn : Turn) → yearsFrom x0 (done ++ (turn ∷ [])) ≡ yearsFrom x0 done ++ (yearOf (lastX0 x0 done) turn ∷ [])
+pub years-more : (x0 : ℕ) (done : List Turn) (turn : Turn) → yearsFrom x0 (done ++ (turn ∷ [])) ≡ yearsFrom x0 done ++ (yearOf (lastX0 x0 done) turn ∷ [])
 unfolding yearsFrom
 years-more x0 [] turn = refl
 years-more x0 (one ∷ done) turn = ap (λ (ys : List Year). yearOf x0 one ∷ ys) (years-more (one .answer .x0) done turn)
 
-last-more : (x0 : ℕ) (done : List Turn) (turn : Turn) → lastX0 x0 (done ++ (turn ∷ [])) ≡ turn .answer .x0
+pub last-more : (x0 : ℕ) (done : List Turn) (turn : Turn) → lastX0 x0 (done ++ (turn ∷ [])) ≡ turn .answer .x0
 last-more x0 [] turn = refl
 last-more x0 (one ∷ done) turn = last-more (one .answer .x0) done turn
 
-stretch-more : (first last : ℕ) (years : List Year) (year : Year)
+pub stretch-more : (first last : ℕ) (years : List Year) (year : Year)
     → stretchOf first last (years ++ (year ∷ [])) ≡ cond (between first (year .number) last) (stretchOf first last years ++ (year ∷ [])) (stretchOf first last years)
 unfolding stretchOf
 stretch-more first last [] year = refl
@@ -60,7 +60,7 @@ stretch-more first last (one ∷ years) year =
     both false true = refl
     both false false = refl
 
-sums-more : (test : Bool) (stretch : List Year) (year : Year)
+pub sums-more : (test : Bool) (stretch : List Year) (year : Year)
     → sumsOf (cond test (stretch ++ (year ∷ [])) stretch) ≡ cond test (withYear (sumsOf stretch) year) (sumsOf stretch)
 unfolding sumsOf withYear
 sums-more true stretch year =

@@ -10,6 +10,7 @@ use Rattle.landfill.proofs.landfill_masses.Reads as masses
 use Rattle.landfill.proofs.landfill_factor.Reads as factor
 use Rattle.landfill.proofs.landfill_factor_by_codes.Reads as factor-by-codes
 use Rattle.landfill.proofs.landfill_repair.Reads as repair
+use Rattle.landfill.proofs.landfill_tunisia.Reads as tunisia
 use Rattle.landfill.proofs.landfill_point.Reads as point
 use Rattle.landfill.proofs.landfill_listing.Reads as listing
 use Rattle.promise_answers.proofs.OneAnswer.{OneAnswer, Settled, by-equation, _&_, both}
@@ -43,6 +44,13 @@ landfill-factor-by-codes-one = by-equation (λ κs a r s p. both (p .0) (p .1))
 
 pub landfill-repair-one : Settled repair.Learnt (λ κs r s. r & now (s .1 .1 .0) & now (s .1 .1 .1 .0) & now (s .1 .1 .1 .1 .0))
 landfill-repair-one = by-equation (λ κs a r s p. both (p .0) (both (p .1 .0) (both (p .1 .1 .0) (p .1 .1 .1))))
+
+-- file, first, last, electricity and fuel, and then the six numbers that are written
+pub landfill-tunisia-one : Settled tunisia.Learnt (λ κs r s. let w = s .1 .1 .1 .1 .1 in
+    r & now (w .0) & now (w .1 .0) & now (w .1 .1 .0) & now (w .1 .1 .1 .0) & now (w .1 .1 .1 .1 .0) & now (w .1 .1 .1 .1 .1 .0))
+landfill-tunisia-one =
+    by-equation (λ κs a r s p. let q = p .1 .1 in
+    both (p .0) (both (p .1 .0) (both (q .0) (both (q .1 .0) (both (q .1 .1 .0) (both (q .1 .1 .1 .0) (q .1 .1 .1 .1)))))))
 
 pub landfill-point-one : Settled point.Learnt (λ κs r s. r & now (s .1 .1 .0) & now (s .1 .1 .1 .0) & now (s .1 .1 .1 .1 .0))
 landfill-point-one = by-equation (λ κs a r s p. both (p .0) (both (p .1 .0) (both (p .1 .1 .0) (p .1 .1 .1))))

@@ -1,0 +1,7 @@
+pub mod Offered
+pub mod Years
+pub mod Signed
+pub mod Stretches
+pub mod Refusals
+pub mod NeverBelow
+pub mod Proved
