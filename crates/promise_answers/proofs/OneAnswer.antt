@@ -17,6 +17,7 @@ pub mod Door
 pub mod Samples
 pub mod Uncertainty
 pub mod Order
+pub mod Reductions
 pub mod Tunisia
 pub mod Line
 pub mod Lines

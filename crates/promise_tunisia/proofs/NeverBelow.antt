@@ -12,8 +12,10 @@ use Rattle.numbers.specs.Lists.{added}
 use Rattle.waste.specs.Waste.{correctionOf}
 use Rattle.record.specs.declared.factors.Factors.{Factors}
 use Rattle.figure.specs.Figure.{x1Of, x2Of, gramsOf, figureOf}
-use Rattle.tunisia.specs.Years.{Year, acceptedYears, yearsOf}
-use Rattle.tunisia.specs.Reduction.{inClass, referenceOf, projectOf, stretchOf, allGrams, stretchRefusal, lessAll, answerOver, noAnswer, reductionOf}
+use Rattle.tunisia.specs.Years.{acceptedYears, yearsOf}
+use Rattle.reductions.specs.Year.{Year, inClass, referenceOf, projectOf, stretchOf}
+use Rattle.tunisia.specs.Reduction.{answerOver, noAnswer, reductionOf}
+use Rattle.reductions.specs.Stretch.{allGrams, stretchRefusal, lessAll}
 use Rattle.promise_tunisia.specs.Reported.{Stretch, reported}
 
 -- the two chains, on the milligrams after correction and capture, with the product u of the factors that both have

@@ -14,9 +14,10 @@ use Rattle.waste.specs.Kind.{isMonthly}
 use Rattle.record.specs.Fields.{kindOf}
 use Rattle.run.specs.History.{Turn, wholeRun}
 use Rattle.tunisia.specs.Years.{acceptedYears, yearsOf}
-use Rattle.tunisia.specs.Reduction.{referenceOf, projectOf, boundsOf, allGrams, stretchOf, stretchRefusal, answerOver, noAnswer, reductionOf}
-use Rattle.tunisia.specs.Walk.{sumsOf}
-use Rattle.tunisia.proofs.Entries.{light-most, entries-light, entries-count}
+use Rattle.tunisia.specs.Reduction.{answerOver, noAnswer, reductionOf}
+use Rattle.reductions.specs.Year.{referenceOf, projectOf, boundsOf, stretchOf, sumsOf}
+use Rattle.reductions.specs.Stretch.{allGrams, stretchRefusal}
+use Rattle.reductions.proofs.Entries.{light-most, entries-light, entries-count}
 use Rattle.tunisia.proofs.ByYear.{yearly-file, monthly-file}
 use Rattle.tunisia.proofs.Ranges.{years-fit}
 use Rattle.promise_three.specs.DemandThree.{Chosen}

@@ -17,7 +17,8 @@ use Rattle.refusal.specs.Refusal.{faultsOf}
 use Rattle.ledger.specs.Refusal.{sound, refusalOf}
 use Rattle.ledger.specs.declared.book.Ledger.{Ledger}
 use Rattle.tunisia.specs.Years.{refusalByYear, acceptedYears, refusalAfter}
-use Rattle.tunisia.specs.Reduction.{mostGrams, gramsLight, isStretch, stretchRefusal, answerOver, noAnswer, reductionOf}
+use Rattle.tunisia.specs.Reduction.{answerOver, noAnswer, reductionOf}
+use Rattle.reductions.specs.Stretch.{mostGrams, gramsLight, isStretch, stretchRefusal}
 use Rattle.tunisia.specs.declared.Reduction.{Reduction}
 use Rattle.promise_tunisia.specs.Reported.{Stretch, reported, Within, Light, NoneBefore6}
 

@@ -9,7 +9,7 @@ use lib.Dec.{ltb}
 use lib.IntN.{ℤ, pos, negsuc, _-ℤ_}
 use Rattle.numbers.specs.Fraction.{Fraction, whole, negative, _⊕_, _⊖_, _≼_, _≺_, _≈_, WithinBound}
 use Rattle.numbers.proofs.Fraction.{below-at-most, at-most-below, same-trans, same-right, add-right}
-use Rattle.tunisia.specs.Reduction.{lessAll}
+use Rattle.reductions.specs.Stretch.{lessAll}
 use Rattle.promise_tunisia.specs.Exact.{signed, WithinSigned}
 
 -- a − b of two numbers, by their order

@@ -17,11 +17,11 @@ use Rattle.ledger.specs.Step.{after}
 use Rattle.ledger.specs.Refusal.{refusalOf}
 use Rattle.ledger.specs.declared.book.Ledger.{Ledger}
 use Rattle.run.proofs.History.{acceptedTurn}
-use Rattle.tunisia.specs.Years.{Year, yearOf, yearsFrom, yearsOf}
-use Rattle.tunisia.specs.Reduction.{referenceOf, projectOf, projectBound, referenceBound, boundsOf, stretchOf}
-use Rattle.tunisia.specs.Walk.{sumsOf, withYear}
-use Rattle.tunisia.specs.declared.year.Sums.{Sums}
-use Rattle.tunisia.proofs.Walks.{lastX0, years-more, stretch-more, sums-more}
+use Rattle.tunisia.specs.Years.{yearOf, yearsFrom, yearsOf}
+use Rattle.reductions.specs.Year.{Year, referenceOf, projectOf, projectBound, referenceBound, boundsOf, stretchOf, sumsOf, withYear}
+use Rattle.reductions.specs.declared.year.Sums.{Sums}
+use Rattle.tunisia.proofs.Walks.{lastX0, years-more}
+use Rattle.reductions.proofs.Years.{stretch-more, sums-more}
 use Rattle.promise_three.specs.Offering.{Offering, recordsIn}
 use Rattle.promise_three.specs.DemandThree.{Chosen}
 use Rattle.promise_three.proofs.OneByOne.{freshOffering, OneByOne, none-yet, one-more, records-more, n-counts}

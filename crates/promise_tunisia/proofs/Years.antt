@@ -25,9 +25,10 @@ use Rattle.ledger.specs.declared.book.Ledger.{Ledger}
 use Rattle.ledger.proofs.Accepted as step
 use Rattle.run.specs.History.{Turn}
 use Rattle.run.proofs.History.{acceptedTurn}
-use Rattle.tunisia.specs.Years.{Year, yearOf, yearsFrom, yearsOf}
-use Rattle.tunisia.specs.Reduction.{inClass, referenceOf, projectOf, projectBound, referenceBound}
-use Rattle.tunisia.proofs.Walks.{lastX0, years-more, last-more, in-class}
+use Rattle.tunisia.specs.Years.{yearOf, yearsFrom, yearsOf}
+use Rattle.reductions.specs.Year.{Year, inClass, referenceOf, projectOf, projectBound, referenceBound}
+use Rattle.tunisia.proofs.Walks.{lastX0, years-more, last-more}
+use Rattle.reductions.proofs.Years.{in-class}
 use Rattle.promise_three.specs.Offering.{Offering, recordsIn}
 use Rattle.promise_three.specs.Exact.{recordAt, exactFigureOf, exactReleaseAt}
 use Rattle.promise_three.specs.DemandThree.{Chosen}

@@ -13,8 +13,10 @@ use Rattle.record.specs.Fields.{recordBytes, kindOf}
 use Rattle.ledger.specs.Refusal.{refusalOf}
 use Rattle.ledger.specs.declared.book.Ledger.{Ledger}
 use Rattle.run.specs.History.{wholeRun}
-use Rattle.tunisia.specs.Years.{refusalByYear, acceptedYears, refusalAfter, Year, yearsOf}
-use Rattle.tunisia.specs.Reduction.{referenceOf, projectOf, referenceBound, projectBound, allGrams, noAnswer}
+use Rattle.tunisia.specs.Years.{refusalByYear, acceptedYears, refusalAfter, yearsOf}
+use Rattle.reductions.specs.Year.{Year, referenceOf, projectOf, referenceBound, projectBound}
+use Rattle.tunisia.specs.Reduction.{noAnswer}
+use Rattle.reductions.specs.Stretch.{allGrams}
 use Rattle.promise_three.specs.DemandThree.{Chosen}
 use Rattle.promise_tunisia.specs.Exact.{exactReference, exactProject, exactReduction, WithinSigned}
 use Rattle.promise_tunisia.specs.Reported.{Stretch, reported, yearRecords, yearLedger, Within, Light, NoneBefore6}

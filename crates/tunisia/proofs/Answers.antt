@@ -6,8 +6,10 @@ use borrow.Author.Tests.{eq-eqb, ne-eqb}
 use lib.IntN.{ℤ, pos}
 use lib.ListN.{length}
 use Rattle.tunisia.specs.Years.{acceptedYears, refusalAfter}
-use Rattle.tunisia.specs.Reduction.{allGrams, stretchRefusal, lessAll, answerOver, noAnswer, reductionOf}
-use Rattle.tunisia.specs.Walk.{sumsOf, takenOver}
+use Rattle.tunisia.specs.Reduction.{answerOver, noAnswer, reductionOf}
+use Rattle.reductions.specs.Stretch.{allGrams, stretchRefusal, lessAll}
+use Rattle.tunisia.specs.Walk.{takenOver}
+use Rattle.reductions.specs.Year.{sumsOf}
 use Rattle.tunisia.specs.declared.accepted.YearsTaken.{YearsTaken}
 
 module _ (file : List ℕ) (first last : ℕ) (electricity fuel : List ℕ) {taken : YearsTaken} {q : ℕ}

@@ -22,8 +22,8 @@ use Rattle.ledger.proofs.Accepted.{accepted-meets, room-alike}
 use Rattle.run.specs.History.{Turn, leading, ending, recordsOf, Run, runOf, wholeRun}
 use Rattle.run.proofs.History.{no-records, first-record, acceptedTurn, run-goes-on, run-stops, run-ends}
 use Rattle.tunisia.specs.Years.{refusalByYear, turnByYear, turnsByYear, acceptedYears, refusalAfter, yearsFrom, yearsOf}
-use Rattle.tunisia.specs.Reduction.{stretchOf}
-use Rattle.tunisia.specs.Walk.{sumsOf, noneWalked, takenOver, asYearly}
+use Rattle.reductions.specs.Year.{stretchOf, sumsOf}
+use Rattle.tunisia.specs.Walk.{noneWalked, takenOver, asYearly}
 use Rattle.tunisia.specs.declared.accepted.YearsTaken.{YearsTaken}
 
 -- A refusal in this mode, from the tests before 6, those from 6 on, and the run's.

@@ -1,5 +1,3 @@
-pub mod Sizes
-pub mod Entries
 pub mod Walks
 pub mod Steps
 pub mod OverRun

@@ -17,11 +17,13 @@ use Rattle.ledger.specs.Step.{fresh}
 use Rattle.ledger.proofs.Sound.{sound-is}
 use Rattle.run.specs.History.{Turn, recordsOf, wholeRun}
 use Rattle.tunisia.specs.Years.{acceptedYears, yearsFrom, yearsOf}
-use Rattle.tunisia.specs.Reduction.{mostGrams, allGrams, referenceOf, projectOf, stretchOf, stretchRefusal, lessAll, answerOver, noAnswer, reductionOf}
-use Rattle.tunisia.specs.Walk.{sumsOf, noneWalked, SumsFit}
+use Rattle.tunisia.specs.Reduction.{answerOver, noAnswer, reductionOf}
+use Rattle.reductions.specs.Stretch.{mostGrams, allGrams, stretchRefusal, lessAll}
+use Rattle.reductions.specs.Year.{referenceOf, projectOf, stretchOf, sumsOf}
+use Rattle.tunisia.specs.Walk.{noneWalked, SumsFit}
 use Rattle.tunisia.specs.declared.Reduction.{Reduction}
-use Rattle.tunisia.proofs.Sizes.{less-most}
-use Rattle.tunisia.proofs.Entries.{light-most, entries-light, entries-count}
+use Rattle.reductions.proofs.Sizes.{less-most}
+use Rattle.reductions.proofs.Entries.{light-most, entries-light, entries-count}
 use Rattle.tunisia.proofs.Walks.{walk-starts, walk-fits}
 use Rattle.tunisia.proofs.OverRun.{over-run}
 use Rattle.tunisia.proofs.ByYear.{yearly-file, monthly-file}

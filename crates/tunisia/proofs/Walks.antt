@@ -24,10 +24,10 @@ use Rattle.ledger.proofs.Sound.{sound-is, released-most}
 use Rattle.ledger.proofs.Step.{released-grows}
 use Rattle.run.specs.History.{Turn}
 use Rattle.run.proofs.History.{acceptedTurn}
-use Rattle.tunisia.specs.Years.{Year, yearOf, yearsFrom, yearsOf}
-use Rattle.tunisia.specs.Reduction.{inClass, referenceOf, projectOf, projectBound, referenceBound, boundsOf, stretchOf}
-use Rattle.tunisia.specs.Walk.{sumsOf, withYear, nextYear, walkedOn, noneWalked, Ready, SumsFit}
-use Rattle.tunisia.specs.declared.year.Sums.{Sums}
+use Rattle.reductions.specs.Year.{Year, stretchOf, sumsOf, withYear}
+use Rattle.reductions.proofs.Years.{stretch-more, sums-more, reference-half, project-half, bounds-most}
+use Rattle.tunisia.specs.Years.{yearOf, yearsFrom, yearsOf}
+use Rattle.tunisia.specs.Walk.{nextYear, walkedOn, noneWalked, Ready, SumsFit}
 use Rattle.tunisia.specs.declared.year.Walked.{Walked}
 
 -- x0 of the last of some records
@@ -44,51 +44,6 @@ years-more x0 (one ∷ done) turn = ap (λ (ys : List Year). yearOf x0 one ∷ y
 pub last-more : (x0 : ℕ) (done : List Turn) (turn : Turn) → lastX0 x0 (done ++ (turn ∷ [])) ≡ turn .answer .x0
 last-more x0 [] turn = refl
 last-more x0 (one ∷ done) turn = last-more (one .answer .x0) done turn
-
-pub stretch-more : (first last : ℕ) (years : List Year) (year : Year)
-    → stretchOf first last (years ++ (year ∷ [])) ≡ cond (between first (year .number) last) (stretchOf first last years ++ (year ∷ [])) (stretchOf first last years)
-unfolding stretchOf
-stretch-more first last [] year = refl
-stretch-more first last (one ∷ years) year =
-    ap (λ (ys : List Year). cond (between first (one .number) last) (one ∷ ys) ys) (stretch-more first last years year)
-    ∙ both (between first (one .number) last) (between first (year .number) last)
-  where
-    both : (a b : Bool) → let ys = stretchOf first last years in
-        cond a (one ∷ cond b (ys ++ (year ∷ [])) ys) (cond b (ys ++ (year ∷ [])) ys) ≡ cond b (cond a (one ∷ ys) ys ++ (year ∷ [])) (cond a (one ∷ ys) ys)
-    both true true = refl
-    both true false = refl
-    both false true = refl
-    both false false = refl
-
-pub sums-more : (test : Bool) (stretch : List Year) (year : Year)
-    → sumsOf (cond test (stretch ++ (year ∷ [])) stretch) ≡ cond test (withYear (sumsOf stretch) year) (sumsOf stretch)
-unfolding sumsOf withYear
-sums-more true stretch year =
-    λ i. record {
-      reference = added-more referenceOf stretch year i;
-      project = added-more projectOf stretch year i;
-      bound = added-more boundsOf stretch year i;
-    }
-sums-more false stretch year = refl
-
--- The class has no range of its own.
-pub in-class : (v : Factors) (class : ℕ) → inRange v ≡ true → inRange (inClass class v) ≡ true
-unfolding inRange inClass
-in-class v class e = e
-
--- How much a year adds: figures of at most half of x0, and bounds of at most B and 7 together.
-module _ (year : Year) (e : inRange (year .factors) ≡ true) where
-  reference-half : referenceOf year + referenceOf year ≤ year .release
-  unfolding referenceOf
-  reference-half = omega (arith, figure-half (inClass 1 (year .factors)) (year .release) (in-class (year .factors) 1 e))
-
-  project-half : projectOf year + projectOf year ≤ year .release
-  unfolding projectOf
-  project-half = figure-half (inClass 2 (year .factors)) (year .release) (in-class (year .factors) 2 e)
-
-  bounds-most : boundsOf year ≤ year .B + 7
-  unfolding boundsOf referenceBound projectBound
-  bounds-most = omega (arith, bound-half (year .factors) (year .B) e)
 
 -- What the walk has after some accepted records from a fresh ledger, which is l by then.
 pub record Walks (first last : ℕ) (done : List Turn) (l : Ledger) (w : Walked) : Type 0 where

@@ -8,29 +8,16 @@ use lib.ListN.{length, getD, take, drop}
 use Rattle.numbers.specs.Bytes.{numberAt}
 use Rattle.numbers.specs.Eight.{eight}
 use Rattle.numbers.specs.Fault.{between}
-use Rattle.numbers.specs.Lists.{added}
 use Rattle.record.specs.Fields.{recordBytes, factorsOf, depositOf}
 use Rattle.record.specs.Ranges.{inRange}
 use Rattle.carbon.specs.Carbon.{mostRecords, mostBrought}
 use Rattle.figure.specs.Figure.{BOf}
 use Rattle.run.specs.History.{Turn}
-use Rattle.tunisia.specs.Years.{Year, yearsOf}
-use Rattle.tunisia.specs.Reduction.{referenceOf, projectOf, boundsOf, stretchOf}
+use Rattle.reductions.specs.Year.{Year, stretchOf, sumsOf, withYear}
+use Rattle.reductions.specs.declared.year.Sums.{Sums}
+use Rattle.tunisia.specs.Years.{yearsOf}
 use Rattle.tunisia.specs.declared.accepted.YearsTaken.{YearsTaken}
-use Rattle.tunisia.specs.declared.year.Sums.{Sums}
 use Rattle.tunisia.specs.declared.year.Walked.{Walked}
-
--- What the years of a stretch add up to.
-unfoldable pub sumsOf : List Year → Sums
-sumsOf stretch = record { reference = added referenceOf stretch; project = added projectOf stretch; bound = added boundsOf stretch }
-
-unfoldable pub withYear : Sums → Year → Sums
-withYear sums year =
-    record {
-      reference = sums .reference + referenceOf year;
-      project = sums .project + projectOf year;
-      bound = sums .bound + boundsOf year;
-    }
 
 -- The year of the record that comes after so many.
 unfoldable pub nextYear : Walked → List ℕ → Year

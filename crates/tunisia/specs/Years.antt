@@ -7,7 +7,6 @@ use lib.Dec.{eqb}
 use Rattle.numbers.specs.Fault.{_when_, firstOf, inserted}
 use Rattle.waste.specs.Kind.{isMonthly}
 use Rattle.record.specs.Fields.{recordBytes, kindOf, factorsOf}
-use Rattle.record.specs.declared.factors.Factors.{Factors}
 use Rattle.figure.specs.Figure.{BOf}
 use Rattle.refusal.specs.Refusal.{faultsOf}
 use Rattle.ledger.specs.Step.{fresh, broughtAt}
@@ -15,6 +14,7 @@ use Rattle.ledger.specs.Refusal.{sound}
 use Rattle.ledger.specs.Take.{acceptedOf, refusedOf}
 use Rattle.ledger.specs.declared.book.Ledger.{Ledger}
 use Rattle.run.specs.History.{Turn, leading, ending, recordsOf}
+use Rattle.reductions.specs.Year.{Year}
 
 -- 'Refusals: 23 a monthly record in this mode, after 5 and before 6'; there is room for the output record.
 unfoldable pub refusalByYear : Ledger → List ℕ → ℕ
@@ -40,13 +40,6 @@ acceptedYears file = leading (turnsByYear fresh (recordsOf file))
 
 unfoldable pub refusalAfter : (file : List ℕ) → ℕ
 refusalAfter file = ending (turnsByYear fresh (recordsOf file))
-
--- Year y: its number, record y's factors, and of period y − 1 the release in mg, which is its x0, and B.
-pub record Year : Type 0 where
-  pub number : ℕ
-  pub factors : Factors
-  pub release : ℕ
-  pub B : ℕ
 
 -- 'the figure of year y uses the release of year y − 1, which is 0 in year 1, with record y's factors'; n and T before record y are those of
 -- period y − 1, and 0 in year 1, where B is then 0 too.

@@ -10,10 +10,10 @@ ghost use Rattle.ledger.specs.Refusal.{refusalOf};
 ghost use Rattle.run.specs.History.{wholeRun};
 ghost use Rattle.tunisia.specs.Years.{acceptedYears, refusalAfter};
 ghost use Rattle.tunisia.specs.Walk.{noneWalked, takenOver, SumsFit, asYearly};
-use crate::year::Sums;
 use crate::year::Walked;
 use crate::year::walk_over;
 use ledger::Ledger;
+use reductions::Sums;
 
 // What the years of the stretch add up to, how many years were accepted, and the refusal of the record after them, 0 if none.
 pub struct YearsTaken {

@@ -1,7 +1,6 @@
 // Reductions under the Tunisian reference method: request i of document 02, after source 002. A package that reports a project of
 // that method calls `reduction_over` with the site's yearly records.
 mod accepted;
-mod grams;
 mod year;
 
 ghost use mathlib.Core.Path.{_≡_};
@@ -9,12 +8,9 @@ ghost use Prim.Native.Nat.{_*_, _^_, _≤_};
 ghost use lib.Signed.{mag};
 ghost use Rattle.tunisia.specs.Reduction.{reductionOf};
 use accepted::accepted_years;
-use grams::less_all;
-use grams::stretch_refusal;
-use grams::total;
-
-// The most grams CO2e of electricity, and the most of fuel, that a year has.
-pub const GRAMS_LIMIT: u64 = 1_000_000_000_000_000;
+use reductions::less_all;
+use reductions::stretch_refusal;
+use reductions::total;
 
 // The refusal of the stretch, 0 if none; reference, project, reduction and bound in grams CO2e; how many years were accepted, and the
 // refusal of the record after them, 0 if none.

@@ -5,9 +5,9 @@ use Prim.Native.Nat.{_≤_}
 use native.Mathlib.Omega.{arith}
 use borrow.Author.Needs.{needs}
 use lib.ListN.{length}
-use Rattle.tunisia.specs.Reduction.{gramsLight, stretchRefusal}
-use Rattle.tunisia.proofs.Sizes.{read-back}
-use Rattle.tunisia.proofs.Entries.{entries-light, entries-count}
+use Rattle.reductions.specs.Stretch.{gramsLight, stretchRefusal}
+use Rattle.reductions.proofs.Sizes.{read-back}
+use Rattle.reductions.proofs.Entries.{entries-light, entries-count}
 use Rattle.tunisia.proofs.Answers.{refused-is, answered-is}
 use Rattle.tunisia.proofs.Ranges.{with-size}
 use Rattle.tunisia.proofs.reduction_over.Statement.{statement}

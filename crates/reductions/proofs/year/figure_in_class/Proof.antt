@@ -2,10 +2,10 @@
 use mathlib.Core.Path.{refl}
 use borrow.Author.Needs.{needs}
 use Rattle.figure.proofs.Laws.{figure-half}
-use Rattle.tunisia.specs.Reduction.{inClass}
-use Rattle.tunisia.proofs.Walks.{in-class}
-use Rattle.tunisia.proofs.year.figure_in_class.Statement.{statement}
-use Rattle.tunisia.proofs.year.figure_in_class.Tie as tie
+use Rattle.reductions.specs.Year.{inClass}
+use Rattle.reductions.proofs.Years.{in-class}
+use Rattle.reductions.proofs.year.figure_in_class.Statement.{statement}
+use Rattle.reductions.proofs.year.figure_in_class.Tie as tie
 
 pub figure-in-class-spec : {M : Type 1} → statement M
 figure-in-class-spec =

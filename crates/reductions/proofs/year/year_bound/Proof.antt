@@ -2,8 +2,8 @@
 use mathlib.Core.Path.{refl}
 use borrow.Author.Needs.{needs}
 use Rattle.figure.proofs.Laws.{bound-half}
-use Rattle.tunisia.proofs.year.year_bound.Statement.{statement}
-use Rattle.tunisia.proofs.year.year_bound.Tie as tie
+use Rattle.reductions.proofs.year.year_bound.Statement.{statement}
+use Rattle.reductions.proofs.year.year_bound.Tie as tie
 
 pub year-bound-spec : {M : Type 1} → statement M
 year-bound-spec =

@@ -6,10 +6,10 @@ use native.Mathlib.Omega.{arith}
 use borrow.Author.Needs.{needs}
 use lib.Dec.{leb}
 use lib.ListN.{length, getD, drop, drop-of-length-le}
-use Rattle.tunisia.specs.Reduction.{mostGrams, gramsLight}
-use Rattle.tunisia.proofs.Entries.{light-on}
-use Rattle.tunisia.proofs.grams.are_light.Statement.{statement}
-use Rattle.tunisia.proofs.grams.are_light.Tie as tie
+use Rattle.reductions.specs.Stretch.{mostGrams, gramsLight}
+use Rattle.reductions.proofs.Entries.{light-on}
+use Rattle.reductions.proofs.grams.are_light.Statement.{statement}
+use Rattle.reductions.proofs.grams.are_light.Tie as tie
 
 abbrev Inv-loop : tie.InvT-loop
 Inv-loop grams all₀ i₀ all i = (i ≤ length grams) × (gramsLight grams ≡ (all && gramsLight (drop i grams)))

@@ -7,9 +7,9 @@ use borrow.Author.Needs.{needs}
 use borrow.Author.Tests.{leb-true}
 use lib.Dec.{leb}
 use Rattle.numbers.proofs.Eight.{three-true}
-use Rattle.tunisia.specs.Reduction.{isStretch}
-use Rattle.tunisia.proofs.grams.is_stretch.Statement.{statement}
-use Rattle.tunisia.proofs.grams.is_stretch.Tie as tie
+use Rattle.reductions.specs.Stretch.{isStretch}
+use Rattle.reductions.proofs.grams.is_stretch.Statement.{statement}
+use Rattle.reductions.proofs.grams.is_stretch.Tie as tie
 
 within : (c : tie.Then1) → let a = c .before .args in (1 ≤ a .first) × ((a .first ≤ a .last) × (a .last ≤ a .years))
 within c =

@@ -5,8 +5,10 @@ ghost use Prim.Native.Nat.{_+_, _*_, _^_, _≤_, _<_};
 ghost use lib.IntN.{pos, _-ℤ_};
 ghost use lib.ListN.{length};
 ghost use lib.Signed.{mag};
-ghost use Rattle.tunisia.specs.Reduction.{mostGrams, gramsLight, allGrams, isStretch, stretchRefusal, lessAll};
-use crate::GRAMS_LIMIT;
+ghost use Rattle.reductions.specs.Stretch.{mostGrams, gramsLight, allGrams, isStretch, stretchRefusal, lessAll};
+
+// The most grams CO2e of electricity, and the most of fuel, that a year has.
+pub const GRAMS_LIMIT: u64 = 1_000_000_000_000_000;
 
 // Tells whether no entry is over the limit.
 fn are_light(grams: &[u64]) -> bool
@@ -22,7 +24,7 @@ fn are_light(grams: &[u64]) -> bool
 }
 
 // Answers all grams of some years together.
-pub(crate) fn total(grams: &[u64]) -> u64
+pub fn total(grams: &[u64]) -> u64
     requires { ⌜ (gramsLight (now grams) ≡ true) × (length (now grams) ≤ 1200) ⌝ }
     ensures { λ r. ⌜ (r ≡ allGrams (now (grams .entry))) × (r ≤ 1200 * mostGrams) ⌝ }
 {
@@ -47,13 +49,7 @@ fn is_stretch(first: u64, last: u64, years: u64, electricity: usize, fuel: usize
 }
 
 // Answers the refusal of a stretch, 0 if none.
-pub(crate) fn stretch_refusal(
-    first: u64,
-    last: u64,
-    years: u64,
-    electricity: &[u64],
-    fuel: &[u64],
-) -> u8
+pub fn stretch_refusal(first: u64, last: u64, years: u64, electricity: &[u64], fuel: &[u64]) -> u8
     ensures { λ r. ⌜ r ≡ stretchRefusal first last years (now (electricity .entry)) (now (fuel .entry)) ⌝ }
 {
     if !is_stretch(first, last, years, electricity.len(), fuel.len()) {
@@ -82,7 +78,7 @@ fn less(z: i64, x: u64) -> i64
 }
 
 // Answers reference less project less electricity less fuel, which may be below zero.
-pub(crate) fn less_all(reference: u64, project: u64, electricity: u64, fuel: u64) -> i64
+pub fn less_all(reference: u64, project: u64, electricity: u64, fuel: u64) -> i64
     requires { ⌜ reference + project + electricity + fuel < 2 ^ 63 ⌝ }
     ensures { λ r. ⌜ r ≡ lessAll reference project electricity fuel ⌝ }
 {

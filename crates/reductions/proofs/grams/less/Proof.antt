@@ -3,9 +3,9 @@ use mathlib.Core.Path.{refl}
 use borrow.Author.Needs.{needs}
 use mir.Facts.{toZ-ofZ, toZ-pos}
 use mir.Syntax.{w64}
-use Rattle.tunisia.proofs.Sizes.{less-most, less-fits}
-use Rattle.tunisia.proofs.grams.less.Statement.{statement}
-use Rattle.tunisia.proofs.grams.less.Tie as tie
+use Rattle.reductions.proofs.Sizes.{less-most, less-fits}
+use Rattle.reductions.proofs.grams.less.Statement.{statement}
+use Rattle.reductions.proofs.grams.less.Tie as tie
 
 fits : tie.Need-sub-result
 fits c =

@@ -5,10 +5,10 @@ use Prim.Native.Nat.{ℕ, _+_, _-_, _*_, _≤_}
 use native.Mathlib.Omega.{arith}
 use borrow.Author.Needs.{needs}
 use lib.ListN.{length, drop, drop-of-length-le}
-use Rattle.tunisia.specs.Reduction.{mostGrams, gramsLight, allGrams}
-use Rattle.tunisia.proofs.Entries.{light-most, grams-on}
-use Rattle.tunisia.proofs.grams.total.Statement.{statement}
-use Rattle.tunisia.proofs.grams.total.Tie as tie
+use Rattle.reductions.specs.Stretch.{mostGrams, gramsLight, allGrams}
+use Rattle.reductions.proofs.Entries.{light-most, grams-on}
+use Rattle.reductions.proofs.grams.total.Statement.{statement}
+use Rattle.reductions.proofs.grams.total.Tie as tie
 
 abbrev Inv-loop : tie.InvT-loop
 Inv-loop grams sum₀ i₀ sum i = (i ≤ length grams) × (allGrams grams ≡ sum + allGrams (drop i grams))

@@ -12,7 +12,7 @@ use lib.Seq.{drop-cons}
 use Rattle.numbers.specs.Fault.{Fault, _when_}
 use Rattle.numbers.proofs.Eight.{both-true, three-true}
 use Rattle.numbers.proofs.Fault.{clear}
-use Rattle.tunisia.specs.Reduction.{mostGrams, gramsLight, allGrams, isStretch, stretchRefusal}
+use Rattle.reductions.specs.Stretch.{mostGrams, gramsLight, allGrams, isStretch, stretchRefusal}
 
 -- No entries are over the limit, and so many of them are at most so many times the limit.
 pub light-most : (grams : List ℕ) → gramsLight grams ≡ true → allGrams grams ≤ length grams * mostGrams

@@ -1,10 +1,9 @@
 -- Each figure and both bounds are the definition's, and small.
 use mathlib.Core.Path.{refl}
 use borrow.Author.Needs.{needs}
-use Rattle.tunisia.specs.Reduction.{referenceOf, projectOf, projectBound, referenceBound, boundsOf}
-use Rattle.tunisia.specs.Walk.{withYear}
-use Rattle.tunisia.proofs.year.with_year.Statement.{statement}
-use Rattle.tunisia.proofs.year.with_year.Tie as tie
+use Rattle.reductions.specs.Year.{referenceOf, projectOf, projectBound, referenceBound, boundsOf, withYear}
+use Rattle.reductions.proofs.year.with_year.Statement.{statement}
+use Rattle.reductions.proofs.year.with_year.Tie as tie
 
 pub with-year-spec : {M : Type 1} → statement M
 unfolding withYear referenceOf projectOf boundsOf referenceBound projectBound

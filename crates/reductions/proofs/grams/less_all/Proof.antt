@@ -1,10 +1,10 @@
 -- Three differences, one after the other; each is at most all four numbers together.
 use native.Mathlib.Omega.{arith}
 use borrow.Author.Needs.{needs}
-use Rattle.tunisia.specs.Reduction.{lessAll}
-use Rattle.tunisia.proofs.Sizes.{read-back, same-size}
-use Rattle.tunisia.proofs.grams.less_all.Statement.{statement}
-use Rattle.tunisia.proofs.grams.less_all.Tie as tie
+use Rattle.reductions.specs.Stretch.{lessAll}
+use Rattle.reductions.proofs.Sizes.{read-back, same-size}
+use Rattle.reductions.proofs.grams.less_all.Statement.{statement}
+use Rattle.reductions.proofs.grams.less_all.Tie as tie
 
 less-2 : tie.Need-less-requires-2
 less-2 c κs = omega (arith, same-size (c .less .result) (c .less .ok), same-size (c .before .signed .result) (c .before .signed .ok))

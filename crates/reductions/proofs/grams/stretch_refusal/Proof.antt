@@ -4,9 +4,9 @@ use mathlib.Core.Bool.{true}
 use borrow.Author.Needs.{needs}
 use borrow.Author.Tests.{not-false}
 use lib.ListN.{length}
-use Rattle.tunisia.specs.Reduction.{isStretch, stretchRefusal}
-use Rattle.tunisia.proofs.grams.stretch_refusal.Statement.{statement}
-use Rattle.tunisia.proofs.grams.stretch_refusal.Tie as tie
+use Rattle.reductions.specs.Stretch.{isStretch, stretchRefusal}
+use Rattle.reductions.proofs.grams.stretch_refusal.Statement.{statement}
+use Rattle.reductions.proofs.grams.stretch_refusal.Tie as tie
 
 -- the years are a stretch
 stretch : (c : tie.Else1) → let a = c .before .before .before .before .args in isStretch (a .first) (a .last) (a .years) (length (a .electricity .now)) (length (a .fuel .now)) ≡ true

@@ -1,0 +1,57 @@
+-- Laws of a year and of the years of a stretch: how large its figures and bounds can be, and one year more at the end.
+use mathlib.Core.Path.{_≡_, refl, ap, _∙_}
+use mathlib.Core.Bool.{Bool, true, false, cond}
+use mathlib.Core.List.{List, [], _∷_, _++_}
+use Prim.Native.Nat.{ℕ, _+_, _≤_}
+use native.Mathlib.Omega.{arith}
+use Rattle.numbers.specs.Fault.{between}
+use Rattle.numbers.proofs.Lists.{added-more}
+use Rattle.record.specs.Ranges.{inRange}
+use Rattle.record.specs.declared.factors.Factors.{Factors}
+use Rattle.figure.proofs.Laws.{figure-half, bound-half}
+use Rattle.reductions.specs.Year.{Year, inClass, referenceOf, projectOf, projectBound, referenceBound, boundsOf, stretchOf, sumsOf, withYear}
+
+pub stretch-more : (first last : ℕ) (years : List Year) (year : Year)
+    → stretchOf first last (years ++ (year ∷ [])) ≡ cond (between first (year .number) last) (stretchOf first last years ++ (year ∷ [])) (stretchOf first last years)
+unfolding stretchOf
+stretch-more first last [] year = refl
+stretch-more first last (one ∷ years) year =
+    ap (λ (ys : List Year). cond (between first (one .number) last) (one ∷ ys) ys) (stretch-more first last years year)
+    ∙ both (between first (one .number) last) (between first (year .number) last)
+  where
+    both : (a b : Bool) → let ys = stretchOf first last years in
+        cond a (one ∷ cond b (ys ++ (year ∷ [])) ys) (cond b (ys ++ (year ∷ [])) ys) ≡ cond b (cond a (one ∷ ys) ys ++ (year ∷ [])) (cond a (one ∷ ys) ys)
+    both true true = refl
+    both true false = refl
+    both false true = refl
+    both false false = refl
+
+pub sums-more : (test : Bool) (stretch : List Year) (year : Year)
+    → sumsOf (cond test (stretch ++ (year ∷ [])) stretch) ≡ cond test (withYear (sumsOf stretch) year) (sumsOf stretch)
+unfolding sumsOf withYear
+sums-more true stretch year =
+    λ i. record {
+      reference = added-more referenceOf stretch year i;
+      project = added-more projectOf stretch year i;
+      bound = added-more boundsOf stretch year i;
+    }
+sums-more false stretch year = refl
+
+-- The class has no range of its own.
+pub in-class : (v : Factors) (class : ℕ) → inRange v ≡ true → inRange (inClass class v) ≡ true
+unfolding inRange inClass
+in-class v class e = e
+
+-- How much a year adds: figures of at most half of x0, and bounds of at most B and 7 together.
+module _ (year : Year) (e : inRange (year .factors) ≡ true) where
+  pub reference-half : referenceOf year + referenceOf year ≤ year .release
+  unfolding referenceOf
+  reference-half = omega (arith, figure-half (inClass 1 (year .factors)) (year .release) (in-class (year .factors) 1 e))
+
+  pub project-half : projectOf year + projectOf year ≤ year .release
+  unfolding projectOf
+  project-half = figure-half (inClass 2 (year .factors)) (year .release) (in-class (year .factors) 2 e)
+
+  pub bounds-most : boundsOf year ≤ year .B + 7
+  unfolding boundsOf referenceBound projectBound
+  bounds-most = omega (arith, bound-half (year .factors) (year .B) e)
