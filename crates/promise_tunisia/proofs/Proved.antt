@@ -89,13 +89,13 @@ tunisia-promise =
       years-within = λ file d chosen. each-year d (yearLedger file) chosen (yearOffering file) (years-one-by-one file) (λ _. (refl, refl));
       reduction-within = reduction-within;
       years-of-the-run = λ s e. let same = yearly-file (s .file) e .0 in (same, years-answered s ∙ ap (λ (turns : List Turn). length turns) same);
-      years-none = λ s e. years-answered s ∙ ap (λ (turns : List Turn). length turns) (monthly-file (s .file) e .0);
+      years-none = λ s e. omega (arith, years-answered s, ap (λ (turns : List Turn). length turns) (monthly-file (s .file) e .0));
       refused-23 = refused-23;
       refused-else = refused-else;
       answered-where = answered-where;
       stretch-24 = stretch-24;
       stretch-25 = stretch-25;
-      never-below = never-below;
+      never-below = λ s. omega (arith, never-below s);
       without-grams = without-grams;
-      reduction-range = reduction-range;
+      reduction-range = λ s m. let range = reduction-range s m in (λ is. omega (arith, range .0 is), λ is. omega (arith, range .1 is));
     }

@@ -1,6 +1,6 @@
 -- A list of grams, entry by entry: what is left of it at a place is the entry there and what is left after it.
 use mathlib.Core.Path.{_≡_, refl, ap, _∙_}
-use mathlib.Core.Bool.{true, not, _&&_}
+use mathlib.Core.Bool.{true, false, _&&_}
 use mathlib.Core.List.{List, [], _∷_}
 use Prim.Native.Nat.{ℕ, _+_, _-_, _*_, _≤_, _<_}
 use native.Mathlib.Numerals.{add-one}
@@ -9,10 +9,9 @@ use borrow.Author.Tests.{leb-true, eqb-true, not-false}
 use lib.Dec.{eqb, leb}
 use lib.ListN.{length, getD, drop}
 use lib.Seq.{drop-cons}
-use Rattle.numbers.specs.Fault.{Fault, _when_}
 use Rattle.numbers.proofs.Eight.{both-true, three-true}
-use Rattle.numbers.proofs.Fault.{clear}
-use Rattle.reductions.specs.Stretch.{mostGrams, gramsLight, allGrams, isStretch, stretchRefusal}
+use Rattle.numbers.proofs.Fault.{isBad, clear}
+use Rattle.reductions.specs.Stretch.{mostGrams, gramsLight, allGrams, isStretch, stretchFaults, stretchRefusal}
 
 -- No entries are over the limit, and so many of them are at most so many times the limit.
 pub light-most : (grams : List ℕ) → gramsLight grams ≡ true → allGrams grams ≤ length grams * mostGrams
@@ -35,19 +34,19 @@ module _ (grams : List ℕ) (i : ℕ) (h : i < length grams) where
 
 -- What a stretch that is not refused is known to meet.
 module _ (first last years : ℕ) (electricity fuel : List ℕ) (e : stretchRefusal first last years electricity fuel ≡ 0) where
-  abbrev faults : List Fault
-  faults = 24 when not (isStretch first last years (length electricity) (length fuel)) ∷ 25 when not (gramsLight electricity && gramsLight fuel) ∷ []
+  none : (k : ℕ) → isBad k (stretchFaults first last years electricity fuel) ≡ false
+  unfolding stretchRefusal
+  none k = clear k (stretchFaults first last years electricity fuel) refl e
 
   pub entries-light : (gramsLight electricity ≡ true) × (gramsLight fuel ≡ true)
-  unfolding stretchRefusal
-  entries-light = both-true (gramsLight electricity) (gramsLight fuel) (not-false (gramsLight electricity && gramsLight fuel) (clear 25 faults refl e))
+  entries-light = both-true (gramsLight electricity) (gramsLight fuel) (not-false (gramsLight electricity && gramsLight fuel) (none 25))
 
   pub entries-count : years ≤ 1200 → (length electricity ≤ 1200) × (length fuel ≤ 1200)
-  unfolding stretchRefusal isStretch
+  unfolding isStretch
   entries-count few =
       let count = last + 1 - first in
       let within = leb 1 first && leb first last && leb last years in
-      let both = both-true within (eqb (length electricity) count && eqb (length fuel) count) (not-false _ (clear 24 faults refl e)) in
+      let both = both-true within (eqb (length electricity) count && eqb (length fuel) count) (not-false _ (none 24)) in
       let tests = three-true (leb 1 first) (leb first last) (leb last years) (both .0) in
       let counts = both-true (eqb (length electricity) count) (eqb (length fuel) count) (both .1) in
       let low = leb-true 1 first (tests .0) in

@@ -5,7 +5,7 @@ use Prim.Native.Nat.{ℕ, _+_, _-_, _^_}
 use lib.Dec.{eqb, leb}
 use lib.IntN.{ℤ, pos, _-ℤ_}
 use lib.ListN.{length}
-use Rattle.numbers.specs.Fault.{_when_, firstOf}
+use Rattle.numbers.specs.Fault.{Fault, _when_, firstOf}
 use Rattle.numbers.specs.Lists.{added}
 
 -- 'entered electricity and fuel grams (each at most 10^15 a year)'
@@ -26,13 +26,14 @@ isStretch first last years electricity fuel =
 
 -- 'for a stretch 24 where it is empty, not within the accepted years or without one entry of each kind of grams for each year, then 25 grams
 -- over the limit'
-unfoldable pub stretchRefusal : (first last years : ℕ) → (electricity fuel : List ℕ) → ℕ
-stretchRefusal first last years electricity fuel =
-    firstOf (
+abbrev pub stretchFaults : (first last years : ℕ) → (electricity fuel : List ℕ) → List Fault
+stretchFaults first last years electricity fuel =
     24 when not (isStretch first last years (length electricity) (length fuel))
     ∷ 25 when not (gramsLight electricity && gramsLight fuel)
     ∷ []
-    )
+
+unfoldable pub stretchRefusal : (first last years : ℕ) → (electricity fuel : List ℕ) → ℕ
+stretchRefusal first last years electricity fuel = firstOf (stretchFaults first last years electricity fuel)
 
 -- 'Reference less project less entered electricity and fuel grams [..] is the reduction, below zero where the project does worse'
 unfoldable pub lessAll : (reference project electricity fuel : ℕ) → ℤ
