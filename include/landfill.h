@@ -219,7 +219,8 @@ enum {
 
 /* Refusals. The first that holds is the answer, and they are tested in this order: for a record 1, 2, 3, 4, 5, 6, 7, 8, 17, 9;
  * for a total with its samples 14, 15, 16; for uncertainties 18, 19; for a file to repair 20, 21, 22. For landfill_tunisia they
- * are 1, 4, 5, 23, 6, 7, 8, 9 for a record, and 24, 25 for a stretch of years. The numbers may come to have gaps. */
+ * are 1, 4, 5, 23, 6, 7, 8, 9 for a record, where 17 cannot come since it is for months, and 24, 25 for a stretch of years. The
+ * numbers may come to have gaps. */
 enum {
     LANDFILL_ACCEPTED = 0,           /* not refused */
     LANDFILL_NOT_48_BYTES = 1,       /* the record is not 48 bytes */
@@ -245,7 +246,7 @@ enum {
     LANDFILL_NOT_WHOLE_RECORDS = 21, /* the length of the file to repair is not a multiple of 48 */
     LANDFILL_NO_ROOM_FOR_REPAIR = 22, /* the output is shorter than the file, or the report than its number of records */
     LANDFILL_NOT_YEARLY = 23,        /* a monthly record, for landfill_tunisia */
-    LANDFILL_NOT_A_STRETCH = 24,     /* the years are none, not all accepted, or have not one entry of each kind of grams each */
+    LANDFILL_NOT_A_STRETCH = 24,     /* there are no years, not all are accepted, or not each has one entry of each kind of grams */
     LANDFILL_GRAMS_TOO_LARGE = 25    /* an entry of electricity or fuel is over 10^15 grams */
 };
 
@@ -348,8 +349,8 @@ uint8_t landfill_repair(const uint8_t *order, size_t order_len, const uint8_t *f
  * - the bound of its project is 3 + B * 4 * GWP / 3000 rounded down, with the GWP of record y and the B of period y - 1, which
  *   is 0 in year 1; the bound of its reference is one gram more.
  * *reference and *project become the figures of the stretch added, *reduction becomes *reference - *project - all electricity
- * - all fuel, and *bound all bounds of reference and project added. The exact formula's reduction differs from *reduction by
- * less than *bound.
+ * - all fuel, and *bound all bounds of reference and project added. The same formulas without rounding give a reduction that
+ * differs from *reduction by less than *bound.
  * *years becomes the number of accepted years, which end before the first refused record, and *refused that record's refusal,
  * 0 if none. Records are refused as landfill_run refuses them with room for all output, and a monthly one with 23, after 5
  * and before 6; bytes at the end that make no whole record are refused with 1. A refused record does not refuse a stretch
@@ -553,7 +554,7 @@ static inline const char *landfill_refusal_text(unsigned refusal)
     case LANDFILL_NO_ROOM_FOR_REPAIR: return "There is too little room for the repaired file or for its report.";
     case LANDFILL_NOT_YEARLY: return "The record is monthly, where only yearly ones are taken.";
     case LANDFILL_NOT_A_STRETCH:
-        return "The years are none, are not all accepted, or do not have one entry each of electricity and of fuel.";
+        return "There are no years, they are not all accepted, or they do not have one entry each of electricity and of fuel.";
     case LANDFILL_GRAMS_TOO_LARGE: return "An entry of electricity or fuel is over 1,000,000,000,000,000 grams.";
     default: return "No refusal has this number.";
     }

@@ -395,7 +395,7 @@ static const struct {
     {22, LANDFILL_NO_ROOM_FOR_REPAIR, "There is too little room for the repaired file or for its report."},
     {23, LANDFILL_NOT_YEARLY, "The record is monthly, where only yearly ones are taken."},
     {24, LANDFILL_NOT_A_STRETCH,
-     "The years are none, are not all accepted, or do not have one entry each of electricity and of fuel."},
+     "There are no years, they are not all accepted, or they do not have one entry each of electricity and of fuel."},
     {25, LANDFILL_GRAMS_TOO_LARGE, "An entry of electricity or fuel is over 1,000,000,000,000,000 grams."},
 };
 static const size_t refusal_count = sizeof refusals / sizeof refusals[0];

@@ -6,11 +6,10 @@ use native.Mathlib.Nat.{mul-le-mul-right}
 use native.Mathlib.Decide.{ℕ-discrete}
 use native.Mathlib.Omega.{arith}
 use borrow.Author.Tests.{eq-eqb, ne-eqb, le-ltb}
-use lib.IntN.{ℤ, pos, _-ℤ_}
+use lib.IntN.{pos, _-ℤ_}
 use lib.ListN.{length}
 use Rattle.numbers.specs.Lists.{added}
 use Rattle.waste.specs.Waste.{correctionOf}
-use Rattle.record.specs.declared.factors.Factors.{Factors}
 use Rattle.figure.specs.Figure.{x1Of, x2Of, gramsOf, figureOf}
 use Rattle.tunisia.specs.Years.{acceptedYears, yearsOf}
 use Rattle.reductions.specs.Year.{Year, inClass, referenceOf, projectOf, stretchOf}

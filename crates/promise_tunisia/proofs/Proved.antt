@@ -1,7 +1,6 @@
 -- Request i, proved.
 use mathlib.Core.Path.{_≡_, refl, ap, _∙_}
-use mathlib.Core.Bool.{true, false}
-use mathlib.Core.List.{List, []}
+use mathlib.Core.List.{List}
 use Prim.Native.Nat.{ℕ, _+_, _-_, _*_, _^_, _≤_, _<_}
 use native.Mathlib.Decide.{ℕ-discrete}
 use native.Mathlib.Omega.{arith}
@@ -10,9 +9,7 @@ use lib.IntN.{pos, negsuc, natAbs}
 use lib.ListN.{length}
 use Rattle.numbers.specs.Fraction.{Fraction, total}
 use Rattle.numbers.specs.Lists.{added}
-use Rattle.waste.specs.Kind.{isMonthly}
-use Rattle.record.specs.Fields.{kindOf}
-use Rattle.run.specs.History.{Turn, wholeRun}
+use Rattle.run.specs.History.{Turn}
 use Rattle.tunisia.specs.Years.{acceptedYears, yearsOf}
 use Rattle.tunisia.specs.Reduction.{answerOver, noAnswer, reductionOf}
 use Rattle.reductions.specs.Year.{referenceOf, projectOf, boundsOf, stretchOf, sumsOf}

@@ -1,9 +1,9 @@
 -- Every year's figures, by induction on the accepted records: what year y takes of year y − 1 is beside its exact value, and so are the
 -- chains on it; later records change nothing that an earlier year is made of.
-use mathlib.Core.Path.{_≡_, refl, ap, _∙_}
-use mathlib.Core.Bool.{Bool, true, false, cond}
+use mathlib.Core.Path.{_≡_, refl, ap}
+use mathlib.Core.Bool.{false}
 use mathlib.Core.List.{List, [], _∷_, _++_}
-use Prim.Native.Nat.{ℕ, zero, suc, _+_, _-_, _*_, _/_, _≤_, _<_}
+use Prim.Native.Nat.{ℕ, suc, _+_, _-_, _*_, _/_, _≤_, _<_}
 use native.Mathlib.Nat.{mul-le-mul-right}
 use native.Mathlib.Numerals.{add-one}
 use native.Mathlib.Decide.{ℕ-discrete}
@@ -11,14 +11,14 @@ use native.Mathlib.Omega.{arith}
 use borrow.Author.Tests.{lt-leb}
 use lib.Dec.{leb}
 use lib.ListN.{length}
-use Rattle.numbers.specs.Fraction.{Fraction, over, whole, _⊗_, total, WithinBound}
+use Rattle.numbers.specs.Fraction.{Fraction, over, _⊗_, WithinBound}
 use Rattle.numbers.specs.Lists.{Each}
 use Rattle.numbers.proofs.Fraction.{total-same}
 use Rattle.numbers.proofs.Lists.{length-more, each-map, each-more}
 use Rattle.record.specs.Fields.{factorsOf}
 use Rattle.record.proofs.Laws.{ranged}
 use Rattle.figure.specs.Figure.{gramsOf, figureOf, marginOf, BOf, boundOf}
-use Rattle.ledger.specs.Step.{fresh, broughtAt, x0Of, after}
+use Rattle.ledger.specs.Step.{fresh, broughtAt, after}
 use Rattle.ledger.specs.Refusal.{refusalOf}
 use Rattle.ledger.specs.Take.{acceptedOf}
 use Rattle.ledger.specs.declared.book.Ledger.{Ledger}
@@ -30,9 +30,9 @@ use Rattle.reductions.specs.Year.{Year, inClass, referenceOf, projectOf, projec
 use Rattle.tunisia.proofs.Walks.{lastX0, years-more, last-more}
 use Rattle.reductions.proofs.Years.{in-class}
 use Rattle.promise_three.specs.Offering.{Offering, recordsIn}
-use Rattle.promise_three.specs.Exact.{recordAt, exactFigureOf, exactReleaseAt}
+use Rattle.promise_three.specs.Exact.{recordAt, exactReleaseAt}
 use Rattle.promise_three.specs.DemandThree.{Chosen}
-use Rattle.promise_three.proofs.OneByOne.{OneByOne, none-yet, one-more, withOne, records-more, n-counts}
+use Rattle.promise_three.proofs.OneByOne.{OneByOne, none-yet, one-more, records-more, n-counts}
 use Rattle.promise_three.proofs.Stocks.{record-earlier, record-latest, all-counted, Alike, alike-before}
 use Rattle.promise_three.proofs.Release.{Beside}
 use Rattle.promise_three.proofs.Figure.{chain}

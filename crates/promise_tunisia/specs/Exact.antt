@@ -8,7 +8,6 @@ use lib.Dec.{leb}
 use lib.IntN.{ℤ, pos, negsuc}
 use Rattle.numbers.specs.Fraction.{Fraction, over, whole, negative, _⊕_, _⊖_, _⊗_, _≺_, total}
 use Rattle.record.specs.Fields.{factorsOf}
-use Rattle.record.specs.declared.factors.Factors.{Factors}
 use Rattle.reductions.specs.Year.{inClass}
 use Rattle.reductions.specs.Stretch.{allGrams}
 use Rattle.promise_three.specs.Exact.{recordAt, exactFigureOf, exactReleaseAt}

@@ -2,24 +2,23 @@
 use mathlib.Core.Path.{_≡_, refl, sym, ap, _∙_}
 use mathlib.Core.Bool.{cond}
 use mathlib.Core.List.{List, [], _++_, append-nil, append-assoc}
-use Prim.Native.Nat.{ℕ, _+_, _-_, _*_, _≤_, _<_}
+use Prim.Native.Nat.{ℕ, _+_, _-_, _*_, _≤_}
 use native.Mathlib.Decide.{ℕ-discrete}
 use native.Mathlib.Omega.{arith}
 use borrow.Author.Tests.{eq-eqb, ne-eqb}
 use lib.Dec.{eqb}
-use lib.ListN.{length, take, drop, length-drop, length-append, length-take}
+use lib.ListN.{length, take, drop, length-drop, length-append}
 use Rattle.record.specs.Fields.{recordBytes}
 use Rattle.carbon.specs.Carbon.{mostRecords}
 use Rattle.ledger.specs.Step.{fresh}
 use Rattle.ledger.specs.declared.book.Ledger.{Ledger}
 use Rattle.ledger.proofs.Sound.{sound-is}
-use Rattle.run.specs.History.{Turn, outputs, recordsOf, Run, runOf, outOf, outcomeOf, wholeRun}
+use Rattle.run.specs.History.{Turn, outputs, recordsOf, Run, outOf, outcomeOf, wholeRun}
 use Rattle.run.specs.declared.Outcome.{Outcome}
 use Rattle.run.proofs.History.{no-records, onFrom, run-ends}
 use Rattle.stretches.specs.Stretches.{stretchBytes, stretchRun}
 use Rattle.stretches.proofs.Stretches.{restRun, output-fits, output-size, goes-on, ends-here}
 use Rattle.tunisia.specs.Walk.{noneWalked, walkedOver, AllReady, takenOver, SumsFit}
-use Rattle.tunisia.specs.declared.accepted.YearsTaken.{YearsTaken}
 use Rattle.tunisia.specs.declared.year.Walked.{Walked}
 use Rattle.tunisia.proofs.Walks.{Walks, walk-starts, walk-fits}
 use Rattle.tunisia.proofs.OverRun.{OverRun, over-run}

@@ -1,24 +1,24 @@
 -- How large an answer can be: no file's sums are over half of all the carbon that a ledger holds.
-use mathlib.Core.Path.{_≡_, refl, sym, _∙_}
-use mathlib.Core.Bool.{Bool, true, false, cond}
+use mathlib.Core.Path.{_≡_, refl}
+use mathlib.Core.Bool.{Bool, true, false}
 use mathlib.Core.List.{List, []}
 use Prim.Native.Nat.{ℕ, _+_, _*_, _^_, _≤_}
 use native.Mathlib.Decide.{ℕ-discrete}
 use native.Mathlib.Omega.{arith}
 use borrow.Author.Tests.{eq-eqb, ne-eqb}
-use lib.IntN.{ℤ, pos, _-ℤ_}
+use lib.IntN.{pos, _-ℤ_}
 use lib.ListN.{length}
 use lib.Signed.{mag}
 use Rattle.numbers.specs.Lists.{added}
 use Rattle.waste.specs.Kind.{isMonthly}
 use Rattle.record.specs.Fields.{recordBytes, kindOf}
-use Rattle.carbon.specs.Carbon.{mostRecords, mostBrought}
+use Rattle.carbon.specs.Carbon.{mostRecords}
 use Rattle.ledger.specs.Step.{fresh}
 use Rattle.ledger.proofs.Sound.{sound-is}
 use Rattle.run.specs.History.{Turn, recordsOf, wholeRun}
 use Rattle.tunisia.specs.Years.{acceptedYears, yearsFrom, yearsOf}
 use Rattle.tunisia.specs.Reduction.{answerOver, noAnswer, reductionOf}
-use Rattle.reductions.specs.Stretch.{mostGrams, allGrams, stretchRefusal, lessAll}
+use Rattle.reductions.specs.Stretch.{allGrams, stretchRefusal, lessAll}
 use Rattle.reductions.specs.Year.{referenceOf, projectOf, stretchOf, sumsOf}
 use Rattle.tunisia.specs.Walk.{noneWalked, SumsFit}
 use Rattle.tunisia.specs.declared.Reduction.{Reduction}

@@ -2,19 +2,13 @@
 use mathlib.Core.Path.{_≡_, refl, sym, ap, _∙_}
 use mathlib.Core.Bool.{Bool, true, false, cond}
 use mathlib.Core.List.{List, [], _∷_, _++_}
-use Prim.Native.Nat.{ℕ, _+_, _*_, _/_, _^_, _≤_, _<_}
+use Prim.Native.Nat.{ℕ, _+_, _*_, _^_, _≤_}
 use native.Mathlib.Omega.{arith}
-use lib.ListN.{length, getD}
-use Rattle.numbers.specs.Eight.{eight}
+use lib.ListN.{length}
 use Rattle.numbers.specs.Fault.{between}
-use Rattle.numbers.specs.Lists.{added}
-use Rattle.numbers.proofs.Lists.{length-more, added-more}
-use Rattle.record.specs.Fields.{factorsOf, depositOf}
+use Rattle.numbers.proofs.Lists.{length-more}
 use Rattle.record.specs.Ranges.{inRange}
-use Rattle.record.specs.declared.factors.Factors.{Factors}
-use Rattle.carbon.specs.Carbon.{mostRecords, mostBrought}
-use Rattle.figure.specs.Figure.{figureOf, BOf, boundOf}
-use Rattle.figure.proofs.Laws.{figure-half, bound-half, B-most}
+use Rattle.figure.proofs.Laws.{B-most}
 use Rattle.ledger.specs.Step.{fresh, broughtAt, newBrought, x0Of, after}
 use Rattle.ledger.specs.Refusal.{sound, refusalOf}
 use Rattle.ledger.specs.Take.{acceptedOf, totalReleased}

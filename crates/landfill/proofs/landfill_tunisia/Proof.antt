@@ -1,5 +1,5 @@
 -- Each number that is written is that of `reduction_over`; the reduction is read back from its bits.
-use mathlib.Core.Path.{_≡_, ap, _∙_}
+use mathlib.Core.Path.{ap, _∙_}
 use borrow.Author.Needs.{needs}
 use mir.Facts.{toZ-ofZ}
 use mir.Syntax.{w64}

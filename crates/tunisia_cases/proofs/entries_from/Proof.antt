@@ -3,7 +3,7 @@ use Prim.Native.Nat.{_-_, _≤_}
 use native.Mathlib.Omega.{arith}
 use borrow.Author.Needs.{needs}
 use mathlib.Core.Path.{_≡_, refl}
-use lib.ListN.{length, length-set}
+use lib.ListN.{length}
 use Rattle.tunisia_cases.proofs.entries_from.Statement.{statement}
 use Rattle.tunisia_cases.proofs.entries_from.Tie as tie
 

@@ -1,11 +1,10 @@
 -- At the head of the loop, the sum so far and the entries that are left add up to all.
-use mathlib.Core.Path.{_≡_, refl, sym, ap, _∙_}
-use mathlib.Core.Bool.{true}
-use Prim.Native.Nat.{ℕ, _+_, _-_, _*_, _≤_}
+use mathlib.Core.Path.{_≡_, _∙_}
+use Prim.Native.Nat.{_+_, _-_, _≤_}
 use native.Mathlib.Omega.{arith}
 use borrow.Author.Needs.{needs}
 use lib.ListN.{length, drop, drop-of-length-le}
-use Rattle.reductions.specs.Stretch.{mostGrams, gramsLight, allGrams}
+use Rattle.reductions.specs.Stretch.{allGrams}
 use Rattle.reductions.proofs.Entries.{light-most, grams-on}
 use Rattle.reductions.proofs.grams.total.Statement.{statement}
 use Rattle.reductions.proofs.grams.total.Tie as tie

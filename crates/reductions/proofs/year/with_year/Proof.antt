@@ -1,5 +1,4 @@
 -- Each figure and both bounds are the definition's, and small.
-use mathlib.Core.Path.{refl}
 use borrow.Author.Needs.{needs}
 use Rattle.reductions.specs.Year.{referenceOf, projectOf, projectBound, referenceBound, boundsOf, withYear}
 use Rattle.reductions.proofs.year.with_year.Statement.{statement}

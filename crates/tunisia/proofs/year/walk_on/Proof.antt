@@ -10,7 +10,7 @@ use Rattle.numbers.specs.Fault.{between}
 use Rattle.figure.specs.Figure.{BOf}
 use Rattle.figure.proofs.Laws.{B-most}
 use Rattle.reductions.specs.Year.{referenceOf, projectOf, projectBound, referenceBound, boundsOf, withYear}
-use Rattle.tunisia.specs.Walk.{nextYear, walkedOn, Ready}
+use Rattle.tunisia.specs.Walk.{nextYear, walkedOn}
 use Rattle.tunisia.proofs.year.walk_on.Statement.{statement}
 use Rattle.tunisia.proofs.year.walk_on.Tie as tie
 
