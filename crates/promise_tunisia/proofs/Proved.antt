@@ -10,7 +10,7 @@ use lib.ListN.{length}
 use Rattle.numbers.specs.Fraction.{Fraction, total}
 use Rattle.numbers.specs.Lists.{added}
 use Rattle.run.specs.History.{Turn}
-use Rattle.tunisia.specs.Years.{acceptedYears, yearsOf}
+use Rattle.tunisia.specs.Years.{acceptedYears, refusalAfter, yearsOf}
 use Rattle.tunisia.specs.Reduction.{answerOver, noAnswer, reductionOf}
 use Rattle.reductions.specs.Year.{referenceOf, projectOf, boundsOf, stretchOf, sumsOf}
 use Rattle.reductions.specs.Stretch.{allGrams, stretchRefusal}
@@ -26,6 +26,7 @@ use Rattle.promise_tunisia.proofs.Years.{each-year}
 use Rattle.promise_tunisia.proofs.Signed.{less-within, less-most, below-most}
 use Rattle.promise_tunisia.proofs.Stretches.{apartIn, among, close-in}
 use Rattle.promise_tunisia.proofs.Refusals.{refused-23, refused-else, answered-where, stretch-24, stretch-25}
+use Rattle.promise_tunisia.proofs.Ends.{years-end}
 use Rattle.promise_tunisia.proofs.NeverBelow.{added-most, never-below, without-grams}
 
 -- What is answered, by the refusal of the stretch.
@@ -43,6 +44,10 @@ module _ (s : Stretch) where
   years-answered : reported s .years ≡ length years
   unfolding reductionOf answerOver noAnswer
   years-answered = elim (ℕ-discrete q 0) [ yes z ↦ simp (eq-eqb q 0 z) | no z ↦ simp (ne-eqb q 0 z) ]
+
+  refused-answered : reported s .refused ≡ refusalAfter (s .file)
+  unfolding reductionOf answerOver noAnswer
+  refused-answered = elim (ℕ-discrete q 0) [ yes z ↦ simp (eq-eqb q 0 z) | no z ↦ simp (ne-eqb q 0 z) ]
 
   -- the years of the stretch are all among the accepted ones
   reduction-within : (d : ℕ → Fraction) → Chosen (yearLedger (s .file)) d → reported s .refusal ≡ 0
@@ -87,6 +92,7 @@ tunisia-promise =
       reduction-within = reduction-within;
       years-of-the-run = λ s e. let same = yearly-file (s .file) e .0 in (same, years-answered s ∙ ap (λ (turns : List Turn). length turns) same);
       years-none = λ s e. omega (arith, years-answered s, ap (λ (turns : List Turn). length turns) (monthly-file (s .file) e .0));
+      years-end = λ s. rw (years-answered s, refused-answered s) (years-end (s .file));
       refused-23 = refused-23;
       refused-else = refused-else;
       answered-where = answered-where;

@@ -19,7 +19,7 @@ use Rattle.tunisia.specs.Reduction.{noAnswer}
 use Rattle.reductions.specs.Stretch.{allGrams}
 use Rattle.promise_three.specs.DemandThree.{Chosen}
 use Rattle.promise_tunisia.specs.Exact.{exactReference, exactProject, exactReduction, WithinSigned}
-use Rattle.promise_tunisia.specs.Reported.{Stretch, reported, yearRecords, yearLedger, Within, Light, NoneBefore6}
+use Rattle.promise_tunisia.specs.Reported.{Stretch, reported, yearRecords, yearLedger, Within, Light, YearsEnd, NoneBefore6}
 
 -- What is said of year y of a file: both of its figures are within their bounds of the exact formulas.
 abbrev pub YearWithin : (d : ℕ → Fraction) → (file : List ℕ) → (y : ℕ) → Year → Type 0
@@ -38,6 +38,8 @@ pub record TunisiaPromise : Type 0 where
   pub years-of-the-run : (s : Stretch) → isMonthly (kindOf (s .file)) ≡ false
       → (acceptedYears (s .file) ≡ wholeRun (s .file) .accepted) × (reported s .years ≡ length (wholeRun (s .file) .accepted))
   pub years-none : (s : Stretch) → isMonthly (kindOf (s .file)) ≡ true → reported s .years ≡ 0
+  -- 'the first refused record, whose number is answered beside'
+  pub years-end : (s : Stretch) → YearsEnd (s .file) (reported s .years) (reported s .refused)
   -- '23 a monthly record in this mode, after 5 and before 6': any other record is refused as in a run with room.
   pub refused-23 : (l : Ledger) (bytes : List ℕ) → (refusalByYear l bytes ≡ 23) ↔ (NoneBefore6 l bytes × (kindOf bytes ≡ monthly))
   pub refused-else : (l : Ledger) (bytes : List ℕ) → isMonthly (kindOf bytes) ≡ false → refusalByYear l bytes ≡ refusalOf l bytes recordBytes

@@ -1,6 +1,6 @@
 -- Document 02, request i: what is reported, and where it is refused, in the request's words.
 use mathlib.Core.Path.{_≡_}
-use mathlib.Core.List.{List, map}
+use mathlib.Core.List.{List, [], map}
 use Prim.Native.Nat.{ℕ, _+_, _-_, _^_, _≤_, _<_}
 use lib.ListN.{length, getD}
 use Rattle.numbers.specs.Fault.{firstOf, ahead}
@@ -9,8 +9,8 @@ use Rattle.refusal.specs.Refusal.{faultsOf}
 use Rattle.ledger.specs.Step.{fresh}
 use Rattle.ledger.specs.Refusal.{sound}
 use Rattle.ledger.specs.declared.book.Ledger.{Ledger}
-use Rattle.run.specs.History.{ledgerAfter}
-use Rattle.tunisia.specs.Years.{acceptedYears}
+use Rattle.run.specs.History.{ledgerAfter, recordsOf}
+use Rattle.tunisia.specs.Years.{refusalByYear, acceptedYears}
 use Rattle.tunisia.specs.Reduction.{reductionOf}
 use Rattle.tunisia.specs.declared.Reduction.{Reduction}
 
@@ -45,6 +45,12 @@ Within s =
 -- No grams of a list are over the limit of 10^15.
 abbrev pub Light : List ℕ → Type 0
 Light grams = (i : ℕ) → i < length grams → getD grams i 0 ≤ 10 ^ 15
+
+-- How the accepted years of a file end, with the refusal that is answered beside: no record is left and it is 0, or the next record is
+-- refused with it in this mode.
+pub data YearsEnd (file : List ℕ) (years refused : ℕ) : Type 0 where
+  none-left : years ≡ length (recordsOf file) → refused ≡ 0 → YearsEnd file years refused
+  next-refused : years < length (recordsOf file) → refused ≡ refusalByYear (yearLedger file) (getD (recordsOf file) years []) → 0 < refused → YearsEnd file years refused
 
 -- None of refusals 1 to 5 is there, with room for the output.
 abbrev pub NoneBefore6 : Ledger → List ℕ → Type 0

@@ -50,7 +50,7 @@ fn year_bound(factors: Factors, margins: u64) -> u64
     figure::bound(factors, margins)
 }
 
-// Adds a year to what those before it add up to, given its factors, and x0 and B of the year before.
+// Adds a year to what those before it add up to, given its factors, and x0 and B of the year before; its number counts for nothing.
 pub fn with_year(sums: Sums, factors: Factors, x0: u64, margins: u64) -> Sums
     requires { ⌜ inRange factors ≡ true ⌝ }
     requires { ⌜ (sums .reference + x0 < 2 ^ 64) × (sums .project + x0 < 2 ^ 64) × (sums .bound + margins < 2 ^ 63) ⌝ }

@@ -18,7 +18,7 @@ pub struct Walked {
     pub sums: Sums,
 }
 
-// Answers T of the eight types with the deposits of a record.
+// Answers T of the eight types with the deposits of a record. The ledger has them too, but only after the last record of a stretch.
 fn deposited(brought: [u64; 8], bytes: &[u8]) -> [u64; 8]
     requires { ⌜ ((t : ℕ) → (t < 8 → getD brought t 0 + depositOf (now bytes) t ≤ mostBrought)) ⌝ }
     ensures { λ r. ⌜ r ≡ eight (λ t. getD brought t 0 + depositOf (now (bytes .entry)) t) ⌝ }
