@@ -16,10 +16,10 @@ use Rattle.carbon.specs.Carbon.{mostRecords, mostBrought}
 use Rattle.figure.specs.Figure.{x1Of, x2Of, gramsOf, figureOf, marginOf, BOf, boundOf}
 use Rattle.figure.proofs.Shares.{kept-share, four-shares}
 
--- The last line of the chain multiplies by at most 2/15, so a figure is at most half of x0.
-pub figure-half : (v : Factors) (x : ℕ) → inRange v ≡ true → figureOf v x + figureOf v x ≤ x
+-- The last line of the chain multiplies by at most 2/15, and those before it by at most 1.
+pub figure-most : (v : Factors) (x : ℕ) → inRange v ≡ true → 15 * figureOf v x ≤ 2 * x
 unfolding figureOf gramsOf x2Of x1Of
-figure-half v x e =
+figure-most v x e =
     let r = ranged v e in
     let x1 = x * v .factor * (10000 - v .captured) / 10 ^ 6 in
     let M = correctionOf (v .class) in
@@ -27,7 +27,7 @@ figure-half v x e =
     let first : x1 ≤ x = omega (arith, mul-le-mul-left x (kept-share (v .factor) (v .captured) (r .factor))) in
     let second : x2 ≤ x1
     = omega (arith, mul-le-mul-left x1 (four-shares (v .oxidation) (v .methane) (v .docf) M (r .methane) (r .docf) (correction-most (v .class)))) in
-    let last : x2 * 4 * v .potential / 3000 + x2 * 4 * v .potential / 3000 ≤ x2 = omega (arith, mul-le-mul-left x2 (r .potential)) in
+    let last : 15 * (x2 * 4 * v .potential / 3000) ≤ 2 * x2 = omega (arith, mul-le-mul-left x2 (r .potential)) in
     omega arith
 
 -- n has 16 bits, so n × T / 10^9 is small beside 2^64.

@@ -5,7 +5,7 @@ use native.Mathlib.Omega.{arith}
 use Rattle.numbers.specs.Eight.{sumOf}
 use Rattle.numbers.proofs.Eight.{sum-most}
 use Rattle.record.specs.Fields.{factorsOf}
-use Rattle.figure.proofs.Laws.{figure-half, bound-small}
+use Rattle.figure.proofs.Laws.{figure-most, bound-small}
 use Rattle.output.proofs.Laws.{Fits, Says, says}
 use Rattle.carbon.specs.Carbon.{mostBrought}
 use Rattle.ledger.specs.Step.{broughtAt, stockAt, release, after, x0Of}
@@ -23,7 +23,7 @@ module _ (l : Ledger) (bytes : List ℕ) (a : Accepted l bytes) where
       record {
         period = omega (arith, s .few);
         x0 = x0;
-        figure = omega (arith, figure-half (factorsOf bytes) (sumOf (release l bytes) 8) (a .ranges));
+        figure = omega (arith, figure-most (factorsOf bytes) (sumOf (release l bytes) 8) (a .ranges));
         bound = bound-small (factorsOf bytes) (after l bytes .n) (broughtAt (after l bytes)) (a .ranges) (omega (arith, s .few))
             (λ t h. omega (arith, s .at t h .small));
         stock = omega (arith, sum-most (stockAt (after l bytes)) mostBrought 8 (λ t h. let w = s .at t h in omega (arith, w .kept, w .small)));

@@ -1,16 +1,16 @@
 -- What a sound ledger holds of each type, and that a ledger of which all that holds is sound.
 use mathlib.Core.Path.{_≡_, refl, sym, ap, _∙_}
 use mathlib.Core.Bool.{Bool, true, false, cond, _&&_, and-false}
-use Prim.Native.Nat.{ℕ, zero, suc, _+_, _-_, _*_, _≤_, _<_}
+use Prim.Native.Nat.{ℕ, zero, suc, _+_, _-_, _*_, _^_, _≤_, _<_}
 use native.Mathlib.Decide.{ℕ-discrete}
-use native.Mathlib.Nat.{zero-mul, add-zero}
+use native.Mathlib.Nat.{zero-mul, add-zero, mul-le-mul-right}
 use native.Mathlib.Omega.{arith}
 use borrow.Author.Tests.{eq-eqb, ne-eqb, le-leb, leb-true, eqb-true}
 use lib.Dec.{eqb, leb, leb·suc-zero, eqb·suc-zero}
 use Rattle.numbers.specs.Eight.{eight, everyOf}
-use Rattle.numbers.proofs.Eight.{both-true, three-true, every-at, every-each, every-same, eight-same, sum-most}
+use Rattle.numbers.proofs.Eight.{both-true, three-true, every-at, every-each, every-same, eight-same, sum-at-most}
 use Rattle.waste.specs.Kind.{isKind}
-use Rattle.waste.specs.Waste.{isClimate}
+use Rattle.waste.specs.Waste.{massLimit, carbonOf, mostCarbonOf, isClimate}
 use Rattle.carbon.specs.Carbon.{mostRecords, mostBrought, ceilingOf, withinOf}
 use Rattle.carbon.proofs.Laws.{ceiling-most}
 use Rattle.year_factors.specs.YearFactors.{soundYear}
@@ -73,11 +73,14 @@ pub gone-is : (l : Ledger) → sound l ≡ true → eight (λ t. broughtAt l t -
 gone-is l e =
     eight-same (λ t. broughtAt l t - stockAt l t) (releasedAt l) (λ t h. omega (arith, sound-is l e .at t h .parted))
 
--- What all types have released is at most what they can have brought in.
-pub released-most : (l : Ledger) → sound l ≡ true → totalReleased l ≤ 8 * mostBrought
-unfolding totalReleased
+-- What all types have released is at most what 1200 records can bring: 1200 × 10^9 kg of each type, whose DOC add up to 21771.
+pub released-most : (l : Ledger) → sound l ≡ true → totalReleased l ≤ 1200 * 10 ^ 9 * 21771 * 100
+unfolding totalReleased ceilingOf carbonOf
 released-most l e =
-    sum-most (releasedAt l) mostBrought 8 (λ t h. let w = sound-is l e .at t h in omega (arith, w .parted, w .small))
+    let s = sound-is l e in
+    let each : (t : ℕ) → t < 8 → releasedAt l t ≤ ceilingOf mostRecords t
+    = λ t h. let w = s .at t h in omega (arith, w .parted, w .ceiling, mul-le-mul-right (massLimit * mostCarbonOf (t + 1) * 100) (s .few)) in
+    sum-at-most (releasedAt l) (ceilingOf mostRecords) 8 each
 
 -- A ledger with records, in order, is sound.
 pub sound-by-parts : (l : Ledger) → l .n ≤ mostRecords → (l .n ≡ 0 → ⊥) → inCode l ≡ true → YearSound l

@@ -4,5 +4,6 @@ pub mod Signed
 pub mod Stretches
 pub mod Refusals
 pub mod Ends
+pub mod Alone
 pub mod NeverBelow
 pub mod Proved

@@ -25,7 +25,8 @@ use Rattle.promise_tunisia.proofs.Offered.{yearOffering, years-one-by-o
 use Rattle.promise_tunisia.proofs.Years.{each-year}
 use Rattle.promise_tunisia.proofs.Signed.{less-within, less-most, below-most}
 use Rattle.promise_tunisia.proofs.Stretches.{apartIn, among, close-in}
-use Rattle.promise_tunisia.proofs.Refusals.{refused-23, refused-else, answered-where, stretch-24, stretch-25}
+use Rattle.promise_tunisia.proofs.Alone.{year-alone}
+use Rattle.promise_tunisia.proofs.Refusals.{answered, refused-23, refused-else, answered-where, stretch-24, stretch-25}
 use Rattle.promise_tunisia.proofs.Ends.{years-end}
 use Rattle.promise_tunisia.proofs.NeverBelow.{added-most, never-below, without-grams}
 
@@ -36,10 +37,6 @@ module _ (s : Stretch) where
 
   abbrev q : ℕ
   q = stretchRefusal (s .first) (s .last) (length years) (s .electricity) (s .fuel)
-
-  answered : reported s .refusal ≡ 0 → q ≡ 0
-  unfolding reductionOf answerOver noAnswer
-  answered none = elim (ℕ-discrete q 0) [ yes z ↦ z | no z ↦ simp (ne-eqb q 0 z) at none ]
 
   years-answered : reported s .years ≡ length years
   unfolding reductionOf answerOver noAnswer
@@ -60,12 +57,12 @@ module _ (s : Stretch) where
       let all : among d (s .first) (s .last) (within .0) (length years) ≡ s .last + 1 - s .first = omega (arith, within .2) in
       let close = close-in d (s .first) (s .last) (within .0) (yearLedger (s .file)) chosen (yearOffering (s .file)) (years-one-by-one (s .file)) (λ _. (refl, refl)) in
       let some : 0 < among d (s .first) (s .last) (within .0) (length years) = omega (arith, all, within .1) in
-      simp (eq-eqb q 0 (answered none))
+      simp (eq-eqb q 0 (answered s none))
       (less-within (total apart (s .last + 1 - s .first)) (added referenceOf stretch) (added projectOf stretch) (added boundsOf stretch) (allGrams (s .electricity)) (allGrams (s .fuel))
       (rw all at (close .below some)) (rw all at (close .above some)))
 
-  -- sums of at most half of what a ledger holds, and grams of at most the limit in each of 1200 years
-  reduction-range : (m : ℕ) → (reported s .reduction ≡ pos m → m ≤ 24 * 10 ^ 17) × (reported s .reduction ≡ negsuc m → m + 1 ≤ 24 * 10 ^ 17)
+  -- the reference is not far above the project, and grams are at most the limit in each of 1200 years
+  reduction-range : (m : ℕ) → (reported s .reduction ≡ pos m → m ≤ 802 * 10 ^ 14) × (reported s .reduction ≡ negsuc m → m + 1 ≤ 24 * 10 ^ 17)
   unfolding reductionOf answerOver noAnswer sumsOf
   reduction-range m =
       elim (ℕ-discrete q 0) [
@@ -79,7 +76,7 @@ module _ (s : Stretch) where
             let e = allGrams (s .electricity) in
             let f = allGrams (s .fuel) in
             simp (eq-eqb q 0 z) (
-              λ is. omega (arith, less-most r p e f m is, fit .0 .0),
+              λ is. omega (arith, less-most r p e f m is, fit .0 .2),
               λ is. omega (arith, below-most r p e f m (added-most stretch) is, light-most (s .electricity) (light .0), light-most (s .fuel) (light .1), few .0, few .1),
             )
         | no z ↦ simp (ne-eqb q 0 z) (λ is. omega (arith, ap natAbs is), λ is. absurd (omega (arith, ap natAbs is)))
@@ -89,6 +86,7 @@ pub tunisia-promise : TunisiaPromise
 tunisia-promise =
     record {
       years-within = λ file d chosen. each-year d (yearLedger file) chosen (yearOffering file) (years-one-by-one file) (λ _. (refl, refl));
+      year-alone = year-alone;
       reduction-within = reduction-within;
       years-of-the-run = λ s e. let same = yearly-file (s .file) e .0 in (same, years-answered s ∙ ap (λ (turns : List Turn). length turns) same);
       years-none = λ s e. omega (arith, years-answered s, ap (λ (turns : List Turn). length turns) (monthly-file (s .file) e .0));

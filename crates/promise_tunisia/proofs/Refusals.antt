@@ -4,8 +4,9 @@ use mathlib.Core.Bool.{Bool, true, false, cond, _&&_}
 use mathlib.Core.Logic.{_↔_}
 use mathlib.Core.List.{List, [], _∷_}
 use Prim.Native.Nat.{ℕ, zero, suc, _+_, _-_, _≤_}
+use native.Mathlib.Decide.{ℕ-discrete}
 use native.Mathlib.Omega.{arith}
-use borrow.Author.Tests.{le-leb, leb-true, eq-eqb, eqb-true}
+use borrow.Author.Tests.{le-leb, leb-true, eq-eqb, ne-eqb, eqb-true}
 use lib.Dec.{eqb, leb, eqb·suc-zero}
 use lib.ListN.{length}
 use Rattle.numbers.specs.Fault.{Fault, firstOf, ahead}
@@ -97,6 +98,13 @@ module _ (s : Stretch) where
 
   are-light : Light (s .electricity) × Light (s .fuel) → light? ≡ true
   are-light h = simp (is-light (s .electricity) (h .0), is-light (s .fuel) (h .1))
+
+  -- An answer without a refusal is to a stretch without one.
+  pub answered : reported s .refusal ≡ 0 → stretchRefusal (s .first) (s .last) years (s .electricity) (s .fuel) ≡ 0
+  unfolding reductionOf answerOver noAnswer
+  answered z =
+      let q = stretchRefusal (s .first) (s .last) years (s .electricity) (s .fuel) in
+      elim (ℕ-discrete q 0) [ yes e ↦ e | no e ↦ simp (ne-eqb q 0 e) at z ]
 
   -- The answer by the two tests.
   abbrev none : (refusal : ℕ) → Reduction

@@ -49,6 +49,12 @@ scaled exact figure bound h =
       figure-below = omega (arith, h .figure-below, mul-le-mul-right (exact .den) low, exact .pos);
     }
 
+-- There are as many years as accepted records.
+pub years-length : (x0 : ℕ) (turns : List Turn) → length (yearsFrom x0 turns) ≡ length turns
+unfolding yearsFrom
+years-length x0 [] = refl
+years-length x0 (turn ∷ rest) = ap suc (years-length (turn .answer .x0) rest)
+
 module _ (d : ℕ → Fraction) where
   -- The exact formulas of a year that is there do not change with one record more.
   module _ (records : List (List ℕ)) (bytes : List ℕ) (y : ℕ) (low : 1 ≤ y) where
@@ -126,11 +132,6 @@ module _ (d : ℕ → Fraction) where
   abbrev pub YearOf : List (List ℕ) → (y : ℕ) → Year → Type 0
   YearOf records y year =
       WithinBound (exactReference d records y) (referenceOf year) (referenceBound year) × WithinBound (exactProject d records y) (projectOf year) (projectBound year)
-
-  pub years-length : (x0 : ℕ) (turns : List Turn) → length (yearsFrom x0 turns) ≡ length turns
-  unfolding yearsFrom
-  years-length x0 [] = refl
-  years-length x0 (turn ∷ rest) = ap suc (years-length (turn .answer .x0) rest)
 
   pub each-year : (L : Ledger) → Chosen L d → (o : Offering) → OneByOne o → Alike L o → Each (YearOf (recordsIn o)) 1 (yearsOf (o .accepted))
   unfolding yearsOf yearsFrom after

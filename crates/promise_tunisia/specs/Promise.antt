@@ -19,7 +19,7 @@ use Rattle.tunisia.specs.Reduction.{noAnswer}
 use Rattle.reductions.specs.Stretch.{allGrams}
 use Rattle.promise_three.specs.DemandThree.{Chosen}
 use Rattle.promise_tunisia.specs.Exact.{exactReference, exactProject, exactReduction, WithinSigned}
-use Rattle.promise_tunisia.specs.Reported.{Stretch, reported, yearRecords, yearLedger, Within, Light, YearsEnd, NoneBefore6}
+use Rattle.promise_tunisia.specs.Reported.{Stretch, reported, alone, yearRecords, yearLedger, Within, Light, YearsEnd, NoneBefore6}
 
 -- What is said of year y of a file: both of its figures are within their bounds of the exact formulas.
 abbrev pub YearWithin : (d : ℕ → Fraction) → (file : List ℕ) → (y : ℕ) → Year → Type 0
@@ -27,9 +27,20 @@ YearWithin d file y year =
     WithinBound (exactReference d (yearRecords file) y) (referenceOf year) (referenceBound year)
     × WithinBound (exactProject d (yearRecords file) y) (projectOf year) (projectBound year)
 
+-- What is said of year y of a file: a stretch of that year alone, with any grams that are taken, is answered its figures and both bounds.
+abbrev pub YearAlone : (file : List ℕ) → (y : ℕ) → Year → Type 0
+YearAlone file y year =
+    (electricity fuel : List ℕ)
+    → reported (alone file y electricity fuel) .refusal ≡ 0
+    → (reported (alone file y electricity fuel) .reference ≡ referenceOf year)
+    × (reported (alone file y electricity fuel) .project ≡ projectOf year)
+    × (reported (alone file y electricity fuel) .bound ≡ referenceBound year + projectBound year)
+
 pub record TunisiaPromise : Type 0 where
   -- 'Demand 3 speaks of each mode against its own formula', year by year,
   pub years-within : (file : List ℕ) (d : ℕ → Fraction) → Chosen (yearLedger file) d → Each (YearWithin d file) 1 (yearsOf (acceptedYears file))
+  -- where a year's figures are what is answered for it alone,
+  pub year-alone : (file : List ℕ) → Each (YearAlone file) 1 (yearsOf (acceptedYears file))
   -- and over any stretch that is answered: 'its bound is the bounds added'.
   pub reduction-within : (s : Stretch) (d : ℕ → Fraction) → Chosen (yearLedger (s .file)) d → reported s .refusal ≡ 0
       → WithinSigned (exactReduction d (yearRecords (s .file)) (s .first) (s .last) (s .electricity) (s .fuel)) (reported s .reduction) (reported s .bound)
@@ -53,6 +64,6 @@ pub record TunisiaPromise : Type 0 where
   pub never-below : (s : Stretch) → reported s .project ≤ reported s .reference
   pub without-grams : (s : Stretch) → allGrams (s .electricity) ≡ 0 → allGrams (s .fuel) ≡ 0
       → reported s .reduction ≡ pos (reported s .reference - reported s .project)
-  -- A reduction is from −2.4 × 10^18 to 2.4 × 10^18 for every input, so that 64 bits hold it.
+  -- A reduction is from −2.4 × 10^18 to 8.02 × 10^16 for every input, so that 64 bits hold it.
   pub reduction-range : (s : Stretch) (m : ℕ)
-      → (reported s .reduction ≡ pos m → m ≤ 24 * 10 ^ 17) × (reported s .reduction ≡ negsuc m → m + 1 ≤ 24 * 10 ^ 17)
+      → (reported s .reduction ≡ pos m → m ≤ 802 * 10 ^ 14) × (reported s .reduction ≡ negsuc m → m + 1 ≤ 24 * 10 ^ 17)

@@ -26,6 +26,10 @@ pub record Stretch : Type 0 where
 abbrev pub reported : Stretch → Reduction
 reported s = reductionOf (s .file) (s .first) (s .last) (s .electricity) (s .fuel)
 
+-- One year of a file alone.
+abbrev pub alone : (file : List ℕ) → (y : ℕ) → (electricity fuel : List ℕ) → Stretch
+alone file y electricity fuel = record { file = file; first = y; last = y; electricity = electricity; fuel = fuel }
+
 -- The accepted records of a file, and the ledger after them.
 abbrev pub yearRecords : (file : List ℕ) → List (List ℕ)
 yearRecords file = map (λ turn. turn .bytes) (acceptedYears file)

@@ -40,7 +40,7 @@ run-fits first last file =
 
 none-fit : (first last : ℕ) → Fit first last []
 unfolding sumsOf stretchOf yearsOf yearsFrom
-none-fit first last = ((omega arith, omega arith), omega arith)
+none-fit first last = ((omega arith, omega arith, omega arith), omega arith)
 
 pub years-fit : (first last : ℕ) (file : List ℕ) → Fit first last (acceptedYears file)
 years-fit first last file = by-kind (isMonthly (kindOf file)) refl

@@ -19,7 +19,7 @@ use Rattle.ledger.proofs.Step.{released-grows}
 use Rattle.run.specs.History.{Turn}
 use Rattle.run.proofs.History.{acceptedTurn}
 use Rattle.reductions.specs.Year.{Year, stretchOf, sumsOf, withYear}
-use Rattle.reductions.proofs.Years.{stretch-more, sums-more, reference-half, project-half, bounds-most}
+use Rattle.reductions.proofs.Years.{stretch-more, sums-more, reference-most, project-most, bounds-most, apart-most}
 use Rattle.tunisia.specs.Years.{yearOf, yearsFrom, yearsOf}
 use Rattle.tunisia.specs.Walk.{nextYear, walkedOn, noneWalked, Ready, SumsFit}
 use Rattle.tunisia.specs.declared.year.Walked.{Walked}
@@ -49,6 +49,7 @@ pub record Walks (first last : ℕ) (done : List Turn) (l : Ledger) (w : Walked)
   pub sums : w .sums ≡ sumsOf (stretchOf first last (yearsOf done))
   pub reference : w .sums .reference + w .sums .reference + w .x0 ≤ totalReleased l
   pub project : w .sums .project + w .sums .project + w .x0 ≤ totalReleased l
+  pub apart : 1500 * w .sums .reference + 46 * w .x0 ≤ 1500 * w .sums .project + 46 * totalReleased l + 1500 * w .n
   pub bound : w .sums .bound ≤ w .n * 2 ^ 44
 
 pub walk-starts : (first last : ℕ) → Walks first last [] fresh noneWalked
@@ -63,12 +64,15 @@ walk-starts first last =
       sums = refl;
       reference = omega arith;
       project = omega arith;
+      apart = omega arith;
       bound = omega arith;
     }
 
 -- The sums are small at the end.
 pub walk-fits : {first last : ℕ} {done : List Turn} {l : Ledger} {w : Walked} → Walks first last done l w → SumsFit (w .sums)
-walk-fits {l = l} h = (omega (arith, h .reference, released-most l (h .good)), omega (arith, h .project, released-most l (h .good)))
+walk-fits {l = l} h =
+    let released = released-most l (h .good) in
+    (omega (arith, h .reference, released), omega (arith, h .project, released), omega (arith, h .apart, h .n, released, sound-is l (h .good) .few))
 
 -- An accepted record more.
 module _ {first last : ℕ} {done : List Turn} {l : Ledger} {w : Walked} (h : Walks first last done l w) (bytes : List ℕ) (room : ℕ) (e : refusalOf l bytes room ≡ 0) where
@@ -115,13 +119,18 @@ module _ {first last : ℕ} {done : List Turn} {l : Ledger} {w : Walked} (h : Wa
 
   -- with or without the year
   by-test : (b : Bool) → let sums = cond b (withYear (w .sums) year) (w .sums) in
-      (sums .reference + sums .reference ≤ totalReleased l) × ((sums .project + sums .project ≤ totalReleased l) × (sums .bound ≤ w .n * 2 ^ 44 + 2 ^ 44))
+      (sums .reference + sums .reference ≤ totalReleased l)
+      × (sums .project + sums .project ≤ totalReleased l)
+      × (1500 * sums .reference ≤ 1500 * sums .project + 46 * totalReleased l + 1500 * w .n + 1500)
+      × (sums .bound ≤ w .n * 2 ^ 44 + 2 ^ 44)
   unfolding withYear nextYear
   by-test true = (
-    omega (arith, h .reference, reference-half year ranges),
-    (omega (arith, h .project, project-half year ranges), omega (arith, h .bound, bounds-most year ranges, B-small)),
+    omega (arith, h .reference, reference-most year ranges),
+    omega (arith, h .project, project-most year ranges),
+    omega (arith, h .apart, apart-most year ranges),
+    omega (arith, h .bound, bounds-most year ranges, B-small),
   )
-  by-test false = (omega (arith, h .reference), (omega (arith, h .project), omega (arith, h .bound)))
+  by-test false = (omega (arith, h .reference), omega (arith, h .project), omega (arith, h .apart), omega (arith, h .bound))
 
   pub walks-on : Walks first last (done ++ (acceptedTurn l bytes ∷ [])) (acceptedOf l bytes .ledger) (walkedOn first last w bytes (x0Of l bytes))
   unfolding acceptedOf walkedOn after newBrought
@@ -136,6 +145,7 @@ module _ {first last : ℕ} {done : List Turn} {l : Ledger} {w : Walked} (h : Wa
         x0 = sym (last-more 0 done (acceptedTurn l bytes));
         sums = sums-on;
         reference = omega (arith, small .0, grown);
-        project = omega (arith, small .1 .0, grown);
-        bound = omega (arith, small .1 .1);
+        project = omega (arith, small .1, grown);
+        apart = omega (arith, small .2, grown);
+        bound = omega (arith, small .3);
       }

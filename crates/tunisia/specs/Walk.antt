@@ -67,6 +67,10 @@ noneWalked = record { n = 0; x0 = 0; brought = eight (λ t. 0); sums = record { 
 unfoldable pub takenOver : (first last : ℕ) → List Turn → (refused : ℕ) → YearsTaken
 takenOver first last turns refused = record { sums = sumsOf (stretchOf first last (yearsOf turns)); years = length turns; refused = refused }
 
--- The sums of a stretch, each at most half of all the carbon that a ledger can hold.
+-- How large the sums of a stretch can be: each is at most half of all the carbon that a ledger can hold, and the reference is above the
+-- project by at most 8.02 × 10^16.
 abbrev pub SumsFit : Sums → Type 0
-SumsFit sums = (sums .reference + sums .reference ≤ 8 * mostBrought) × (sums .project + sums .project ≤ 8 * mostBrought)
+SumsFit sums =
+    (sums .reference + sums .reference ≤ 8 * mostBrought)
+    × (sums .project + sums .project ≤ 8 * mostBrought)
+    × (sums .reference ≤ sums .project + 802 * 10 ^ 14)

@@ -9,7 +9,7 @@ use lib.ListN.{getD}
 use Rattle.record.specs.Fields.{factorsOf}
 use Rattle.carbon.proofs.Laws.{sum-fits}
 use Rattle.figure.specs.Figure.{figureOf}
-use Rattle.figure.proofs.Laws.{figure-half}
+use Rattle.figure.proofs.Laws.{figure-most}
 use Rattle.figure.proofs.filed.Statement.{statement}
 use Rattle.figure.proofs.filed.Tie as tie
 
@@ -17,7 +17,7 @@ figure-is : (c : tie.Joined1) → let a = c .before .before .before .args in c .
 figure-is c =
     let s = c .before .before .before in
     ⊎-elim
-    (λ w. w .1 ∙ omega (arith, s .pre .1 .0 (w .0 .taken), figure-half (factorsOf (s .args .bytes .now)) (s .args .x0) (s .pre .0)))
+    (λ w. w .1 ∙ omega (arith, s .pre .1 .0 (w .0 .taken), figure-most (factorsOf (s .args .bytes .now)) (s .args .x0) (s .pre .0)))
     (λ w. w .2 ∙ w .1 .ensures ∙ rw (c .before .of .ensures))
     (c .if1 .came)
 

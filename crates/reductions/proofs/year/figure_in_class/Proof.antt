@@ -1,7 +1,8 @@
--- The class has no range of its own, and a figure is at most half of x0.
+-- The class has no range of its own, and a figure is less than half of x0.
 use mathlib.Core.Path.{refl}
+use native.Mathlib.Omega.{arith}
 use borrow.Author.Needs.{needs}
-use Rattle.figure.proofs.Laws.{figure-half}
+use Rattle.figure.proofs.Laws.{figure-most}
 use Rattle.reductions.specs.Year.{inClass}
 use Rattle.reductions.proofs.Years.{in-class}
 use Rattle.reductions.proofs.year.figure_in_class.Statement.{statement}
@@ -13,4 +14,4 @@ figure-in-class-spec =
     (tie.spec (λ c κs. search needs) (λ c κs. rw (c .in-class .ensures) (in-class (c .before .args .factors) (c .before .args .class) (c .before .pre)))
     (λ c. let s = c .before .before in
     rw (c .figure .ensures, c .before .in-class .ensures)
-    (refl, figure-half (inClass (s .args .class) (s .args .factors)) (s .args .x0) (in-class (s .args .factors) (s .args .class) (s .pre)))))
+    (refl, omega (arith, figure-most (inClass (s .args .class) (s .args .factors)) (s .args .x0) (in-class (s .args .factors) (s .args .class) (s .pre))))))

@@ -28,7 +28,7 @@ returns c =
     let taken = first .before .before .before in
     let a = taken .before .before .before .args in
     rw (c .as-yearly .ensures, first .first-refusal .ensures, first .before .before .none-walked .ensures)
-    (months-taken (a .first) (a .last) (a .file .now) (month taken), ((omega arith, omega arith), omega arith))
+    (months-taken (a .first) (a .last) (a .file .now) (month taken), ((omega arith, omega arith, omega arith), omega arith))
 
 returns-2 : tie.Need-returns-2
 returns-2 c =
