@@ -17,7 +17,7 @@
  *   count numbers. A pointer without a length is to one number, and masses of landfill_masses to eight.
  * - No pointer is NULL, not even where the length is 0.
  * - No two buffers of a call overlap, and no number that the call writes lies in a buffer or in another such number.
- * - Buffers of bytes need no alignment. Numbers behind pointers are aligned as C aligns them.
+ * - Buffers of bytes need no alignment. A number that a pointer is to is aligned as C aligns it.
  * - While a call runs, no other thread writes what it was given, or reads what it may write.
  * The helpers at the end ask the same. They take no length: what they read or write has a fixed size.
  *

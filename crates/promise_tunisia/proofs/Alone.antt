@@ -9,7 +9,7 @@ use Rattle.numbers.specs.Lists.{Each}
 use Rattle.numbers.proofs.Lists.{each-map, each-more}
 use Rattle.run.proofs.History.{acceptedTurn}
 use Rattle.reductions.specs.Year.{Year, boundsOf, stretchOf}
-use Rattle.tunisia.specs.Years.{yearOf, yearsFrom, yearsOf, acceptedYears}
+use Rattle.tunisia.specs.Years.{countedYear, yearsFrom, yearsOf, acceptedYears}
 use Rattle.tunisia.specs.Reduction.{answerOver, reductionOf}
 use Rattle.tunisia.proofs.Walks.{lastX0, years-more}
 use Rattle.promise_three.specs.Offering.{Offering}
@@ -25,12 +25,12 @@ Numbered y year = year .number ≡ y
 
 -- the accepted years
 numbered : (o : Offering) → OneByOne o → Each Numbered 1 (yearsOf (o .accepted))
-unfolding yearsOf yearsFrom yearOf
+unfolding yearsOf yearsFrom countedYear
 numbered _ none-yet = tt
 numbered _ (one-more o bytes room r e) =
     let turn = acceptedTurn (o .ledger) bytes in
     rw (years-more 0 (o .accepted) turn)
-    (each-more Numbered 1 (yearsFrom 0 (o .accepted)) (yearOf (lastX0 0 (o .accepted)) turn) (numbered o r)
+    (each-more Numbered 1 (yearsFrom 0 (o .accepted)) (countedYear (lastX0 0 (o .accepted)) turn) (numbered o r)
     (omega (arith, n-counts o r, years-length 0 (o .accepted))))
 
 -- no year is before the first of some

@@ -10,7 +10,7 @@ use Rattle.ledger.specs.Take.{acceptedOf}
 use Rattle.ledger.specs.declared.book.Ledger.{Ledger}
 use Rattle.run.specs.History.{ledgerAfter, leading, ending, recordsOf}
 use Rattle.tunisia.specs.Years.{refusalByYear, turnsByYear, acceptedYears, refusalAfter}
-use Rattle.tunisia.proofs.ByYear.{goes-on, stops}
+use Rattle.tunisia.proofs.ByYear.{year-goes-on, year-stops}
 use Rattle.promise_tunisia.specs.Reported.{YearsEnd, none-left, next-refused}
 
 -- the same of any ledger and records
@@ -38,10 +38,10 @@ ends-in (bytes ∷ xs) l =
       | yes e ↦
           let next = acceptedOf l bytes .ledger in
           let ts = leading (turnsByYear next xs) in
-          let went = goes-on l bytes xs e in
+          let went = year-goes-on l bytes xs e in
           rw (went .0, went .1) (in-front (ledgerAfter next ts) bytes xs (length ts) (ending (turnsByYear next xs)) (ends-in xs next))
       | no e ↦
-          let stopped = stops l bytes xs e in
+          let stopped = year-stops l bytes xs e in
           rw (stopped .0, stopped .1) (before (omega arith) refl (omega (arith, e)))
     ]
 

@@ -13,13 +13,13 @@ use Rattle.reductions.proofs.Years.{project-below}
 use Rattle.reductions.specs.Year.{Year, referenceOf, projectOf, stretchOf}
 use Rattle.tunisia.specs.Reduction.{answerOver, noAnswer, reductionOf}
 use Rattle.reductions.specs.Stretch.{allGrams, stretchRefusal, lessAll}
-use Rattle.promise_tunisia.specs.Reported.{Stretch, reported}
+use Rattle.promise_tunisia.specs.Reported.{StretchOfYears, reported}
 
 pub added-most : (years : List Year) → added projectOf years ≤ added referenceOf years
 added-most [] = omega arith
 added-most (year ∷ rest) = omega (arith, project-below year, added-most rest)
 
-pub never-below : (s : Stretch) → reported s .project ≤ reported s .reference
+pub never-below : (s : StretchOfYears) → reported s .project ≤ reported s .reference
 unfolding reductionOf answerOver noAnswer
 never-below s =
     let years = acceptedYears (s .file) in
@@ -33,7 +33,7 @@ less-is : (r p : ℕ) → p ≤ r → (pos r -ℤ pos p) ≡ pos (r - p)
 less-is r zero h = ap pos (omega arith)
 less-is r (suc p) h = rw (le-ltb r (suc p) h)
 
-pub without-grams : (s : Stretch) → allGrams (s .electricity) ≡ 0 → allGrams (s .fuel) ≡ 0 → reported s .reduction ≡ pos (reported s .reference - reported s .project)
+pub without-grams : (s : StretchOfYears) → allGrams (s .electricity) ≡ 0 → allGrams (s .fuel) ≡ 0 → reported s .reduction ≡ pos (reported s .reference - reported s .project)
 unfolding reductionOf answerOver noAnswer lessAll
 without-grams s e f =
     let years = acceptedYears (s .file) in

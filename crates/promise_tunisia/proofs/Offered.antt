@@ -14,7 +14,7 @@ use Rattle.ledger.specs.declared.book.Ledger.{Ledger}
 use Rattle.run.specs.History.{Turn, ledgerAfter, leading, recordsOf}
 use Rattle.run.proofs.History.{acceptedTurn}
 use Rattle.tunisia.specs.Years.{refusalByYear, turnsByYear, acceptedYears}
-use Rattle.tunisia.proofs.ByYear.{goes-on, stops}
+use Rattle.tunisia.proofs.ByYear.{year-goes-on, year-stops}
 use Rattle.promise_three.specs.Offering.{Offering}
 use Rattle.promise_three.proofs.OneByOne.{OneByOne, none-yet, one-more, withOne, freshOffering}
 use Rattle.promise_tunisia.specs.Reported.{yearLedger}
@@ -47,9 +47,9 @@ unfolding acceptedOf
 goes-by-year [] o r = rw (no-years (o .ledger)) (none-more o r)
 goes-by-year (bytes ∷ rest) o r =
     elim (ℕ-discrete (refusalByYear (o .ledger) bytes) 0) [
-      | yes e ↦ rw (goes-on (o .ledger) bytes rest e .0)
+      | yes e ↦ rw (year-goes-on (o .ledger) bytes rest e .0)
           (with-one o bytes (leading (turnsByYear (withOne o bytes .ledger) rest)) (goes-by-year rest (withOne o bytes) (one-more o bytes recordBytes r (taken (o .ledger) bytes e))))
-      | no e ↦ rw (stops (o .ledger) bytes rest e .0) (none-more o r)
+      | no e ↦ rw (year-stops (o .ledger) bytes rest e .0) (none-more o r)
     ]
 
 abbrev pub yearOffering : (file : List ℕ) → Offering

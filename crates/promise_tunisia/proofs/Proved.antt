@@ -19,11 +19,11 @@ use Rattle.tunisia.proofs.ByYear.{yearly-file, monthly-file}
 use Rattle.tunisia.proofs.Ranges.{years-fit}
 use Rattle.promise_three.specs.DemandThree.{Chosen}
 use Rattle.promise_tunisia.specs.Exact.{exactReduction, WithinSigned}
-use Rattle.promise_tunisia.specs.Reported.{Stretch, reported, yearRecords, yearLedger}
+use Rattle.promise_tunisia.specs.Reported.{StretchOfYears, reported, yearRecords, yearLedger}
 use Rattle.promise_tunisia.specs.Promise.{TunisiaPromise}
 use Rattle.promise_tunisia.proofs.Offered.{yearOffering, years-one-by-one}
 use Rattle.promise_tunisia.proofs.Years.{each-year}
-use Rattle.promise_tunisia.proofs.Signed.{less-within, less-most, below-most}
+use Rattle.promise_tunisia.proofs.Signed.{less-within, difference-most, below-most}
 use Rattle.promise_tunisia.proofs.Stretches.{apartIn, among, close-in}
 use Rattle.promise_tunisia.proofs.Alone.{year-alone}
 use Rattle.promise_tunisia.proofs.Refusals.{answered, refused-23, refused-else, answered-where, stretch-24, stretch-25}
@@ -31,7 +31,7 @@ use Rattle.promise_tunisia.proofs.Ends.{years-end}
 use Rattle.promise_tunisia.proofs.NeverBelow.{added-most, never-below, without-grams}
 
 -- What is answered, by the refusal of the stretch.
-module _ (s : Stretch) where
+module _ (s : StretchOfYears) where
   abbrev years : List Turn
   years = acceptedYears (s .file)
 
@@ -76,7 +76,7 @@ module _ (s : Stretch) where
             let e = allGrams (s .electricity) in
             let f = allGrams (s .fuel) in
             simp (eq-eqb q 0 z) (
-              λ is. omega (arith, less-most r p e f m is, fit .0 .2),
+              λ is. omega (arith, difference-most r p e f m is, fit .0 .2),
               λ is. omega (arith, below-most r p e f m (added-most stretch) is, light-most (s .electricity) (light .0), light-most (s .fuel) (light .1), few .0, few .1),
             )
         | no z ↦ simp (ne-eqb q 0 z) (λ is. omega (arith, ap natAbs is), λ is. absurd (omega (arith, ap natAbs is)))

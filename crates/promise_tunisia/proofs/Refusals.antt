@@ -21,7 +21,7 @@ use Rattle.tunisia.specs.Years.{refusalByYear, acceptedYears, refusalAfter}
 use Rattle.tunisia.specs.Reduction.{answerOver, noAnswer, reductionOf}
 use Rattle.reductions.specs.Stretch.{mostGrams, gramsLight, isStretch, stretchRefusal}
 use Rattle.tunisia.specs.declared.Reduction.{Reduction}
-use Rattle.promise_tunisia.specs.Reported.{Stretch, reported, Within, Light, NoneBefore6}
+use Rattle.promise_tunisia.specs.Reported.{StretchOfYears, reported, Within, Light, NoneBefore6}
 
 -- A monthly record, after 5 and before 6.
 module _ (l : Ledger) (bytes : List ℕ) where
@@ -67,7 +67,7 @@ unfolding gramsLight
 is-light [] h = refl
 is-light (one ∷ rest) h = simp (le-leb one mostGrams (h 0 (omega arith)), is-light rest (λ i l. h (suc i) (omega arith)))
 
-module _ (s : Stretch) where
+module _ (s : StretchOfYears) where
   abbrev years : ℕ
   years = length (acceptedYears (s .file))
 

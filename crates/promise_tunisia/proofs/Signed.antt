@@ -74,9 +74,9 @@ less-within E r p b e f below above =
 
 -- How large the difference is, where the project is at most the reference.
 module _ (r p e f m : ℕ) where
-  pub less-most : lessAll r p e f ≡ pos m → m + p ≤ r
+  pub difference-most : lessAll r p e f ≡ pos m → m + p ≤ r
   unfolding signed
-  less-most is = let same = rw is at (signed-all r p e f) in omega (arith, same)
+  difference-most is = let same = rw is at (signed-all r p e f) in omega (arith, same)
 
   pub below-most : p ≤ r → lessAll r p e f ≡ negsuc m → m + 1 ≤ e + f
   unfolding signed

@@ -17,7 +17,7 @@ use Rattle.ledger.specs.Step.{after}
 use Rattle.ledger.specs.Refusal.{refusalOf}
 use Rattle.ledger.specs.declared.book.Ledger.{Ledger}
 use Rattle.run.proofs.History.{acceptedTurn}
-use Rattle.tunisia.specs.Years.{yearOf, yearsFrom, yearsOf}
+use Rattle.tunisia.specs.Years.{countedYear, yearsFrom, yearsOf}
 use Rattle.reductions.specs.Year.{Year, referenceOf, projectOf, projectBound, referenceBound, boundsOf, stretchOf, sumsOf, withYear}
 use Rattle.reductions.specs.declared.year.Sums.{Sums}
 use Rattle.tunisia.proofs.Walks.{lastX0, years-more}
@@ -82,7 +82,7 @@ module _ (d : ℕ → Fraction) (first last : ℕ) (low : 1 ≤ first) where
     n = length (o .accepted)
 
     abbrev year : Year
-    year = yearOf (lastX0 0 (o .accepted)) (acceptedTurn (o .ledger) bytes)
+    year = countedYear (lastX0 0 (o .accepted)) (acceptedTurn (o .ledger) bytes)
 
     abbrev records : List (List ℕ)
     records = recordsIn o ++ (bytes ∷ [])
@@ -130,9 +130,9 @@ module _ (d : ℕ → Fraction) (first last : ℕ) (low : 1 ≤ first) where
         (year-above (exactReference d records (suc n)) (exactProject d records (suc n)) (referenceOf year) (projectOf year) (referenceBound year) (projectBound year) (within .0) (within .1)))
     by-test false t = rw (none-among t, kept) h
 
-    pub stretch-on : Close (total (λ i. apartIn records (first + i)) (among (suc n))) (sumsOf (stretchOf first last (yearsFrom 0 (o .accepted ++ (acceptedTurn (o .ledger) bytes ∷ []))))) (among (suc n))
-    unfolding yearOf yearsOf
-    stretch-on =
+    pub one-more-year : Close (total (λ i. apartIn records (first + i)) (among (suc n))) (sumsOf (stretchOf first last (yearsFrom 0 (o .accepted ++ (acceptedTurn (o .ledger) bytes ∷ []))))) (among (suc n))
+    unfolding countedYear yearsOf
+    one-more-year =
         let number : o .ledger .n + 1 ≡ suc n = rw (n-counts o r, add-one) in
         rw (years-more 0 (o .accepted) (acceptedTurn (o .ledger) bytes), stretch-more first last (yearsFrom 0 (o .accepted)) year, sums-more (between first (year .number) last) (stretchOf first last (yearsFrom 0 (o .accepted))) year)
         (by-test (between first (year .number) last) (ap (λ (y : ℕ). between first y last) (sym number)))
@@ -146,4 +146,4 @@ module _ (d : ℕ → Fraction) (first last : ℕ) (low : 1 ≤ first) where
       let here : Chosen (after (o .ledger) bytes) d = rw (same .0, same .1) at chosen in
       let before = alike-before o bytes room r e in
       rw (length-more (o .accepted) turn, records-more o bytes)
-      (stretch-on o bytes room r e (after (o .ledger) bytes) here before (close-in (after (o .ledger) bytes) here o r before))
+      (one-more-year o bytes room r e (after (o .ledger) bytes) here before (close-in (after (o .ledger) bytes) here o r before))

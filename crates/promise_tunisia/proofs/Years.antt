@@ -25,7 +25,7 @@ use Rattle.ledger.specs.declared.book.Ledger.{Ledger}
 use Rattle.ledger.proofs.Accepted as step
 use Rattle.run.specs.History.{Turn}
 use Rattle.run.proofs.History.{acceptedTurn}
-use Rattle.tunisia.specs.Years.{yearOf, yearsFrom, yearsOf}
+use Rattle.tunisia.specs.Years.{countedYear, yearsFrom, yearsOf}
 use Rattle.reductions.specs.Year.{Year, inClass, referenceOf, projectOf, projectBound, referenceBound}
 use Rattle.tunisia.proofs.Walks.{lastX0, years-more, last-more}
 use Rattle.reductions.proofs.Years.{in-class}
@@ -37,7 +37,7 @@ use Rattle.promise_three.proofs.Stocks.{record-earlier, record-latest, all-coun
 use Rattle.promise_three.proofs.Release.{Beside}
 use Rattle.promise_three.proofs.Figure.{chain}
 use Rattle.promise_three.proofs.Figures.{release-kept, newest-beside}
-use Rattle.promise_tunisia.specs.Exact.{exactBefore, exactIn, exactReference, exactProject}
+use Rattle.promise_tunisia.specs.Exact.{exactBefore, exactInClass, exactReference, exactProject}
 
 -- × 73 / 100 and rounded down: the bound grows by one gram.
 scaled : (exact : Fraction) (figure bound : ℕ) → WithinBound exact figure bound → WithinBound (exact ⊗ over 73 100 (omega arith)) (figure * 73 / 100) (bound + 1)
@@ -72,8 +72,8 @@ module _ (d : ℕ → Fraction) where
               (λ t _. release-kept d records bytes (y - 1) (omega arith) (omega arith) t))
         ]
 
-    in-kept : (class : ℕ) → y ≤ length records → exactIn d more class y ≡ exactIn d records class y
-    unfolding exactIn
+    in-kept : (class : ℕ) → y ≤ length records → exactInClass d more class y ≡ exactInClass d records class y
+    unfolding exactInClass
     in-kept class high = rw (before-kept (omega arith), record-earlier records bytes y low high)
 
     pub reference-kept : y ≤ length records → exactReference d more y ≡ exactReference d records y
@@ -112,11 +112,11 @@ module _ (d : ℕ → Fraction) where
     y = suc (length (o .accepted))
 
     abbrev year : Year
-    year = yearOf (lastX0 0 (o .accepted)) (acceptedTurn (o .ledger) bytes)
+    year = countedYear (lastX0 0 (o .accepted)) (acceptedTurn (o .ledger) bytes)
 
     in-class-within : (class : ℕ)
-        → WithinBound (exactIn d records class y) (figureOf (inClass class (year .factors)) (year .release)) (boundOf (year .factors) (year .B))
-    unfolding exactIn yearOf boundOf gramsOf inClass
+        → WithinBound (exactInClass d records class y) (figureOf (inClass class (year .factors)) (year .release)) (boundOf (year .factors) (year .B))
+    unfolding exactInClass countedYear boundOf gramsOf inClass
     in-class-within class =
         let last : recordAt records y ≡ bytes = rw (all-counted o) at (record-latest (recordsIn o) bytes) in
         let v = inClass class (factorsOf bytes) in
@@ -144,7 +144,7 @@ module _ (d : ℕ → Fraction) where
       let records = recordsIn o ++ (bytes ∷ []) in
       let last : 1 + length (yearsFrom 0 (o .accepted)) ≡ suc (length (o .accepted)) = omega (arith, years-length 0 (o .accepted)) in
       rw (records-more o bytes, years-more 0 (o .accepted) turn)
-      (each-more (YearOf records) 1 (yearsFrom 0 (o .accepted)) (yearOf (lastX0 0 (o .accepted)) turn)
+      (each-more (YearOf records) 1 (yearsFrom 0 (o .accepted)) (countedYear (lastX0 0 (o .accepted)) turn)
       (each-map (YearOf (recordsIn o)) (YearOf records) 1 (yearsFrom 0 (o .accepted))
       (λ i year low high p. let in-records : i ≤ length (recordsIn o) = rw (all-counted o) (omega (arith, years-length 0 (o .accepted))) in
       rw (reference-kept (recordsIn o) bytes i low in-records, project-kept (recordsIn o) bytes i low in-records) p)

@@ -19,16 +19,16 @@ module _ (d : ℕ → Fraction) (records : List (List ℕ)) where
   exactBefore y = cond (leb y 1) (whole 0) (total (exactReleaseAt d records (y - 1)) 8)
 
   -- the chain 'with record y's factors' and a class in the place of the record's;
-  unfoldable pub exactIn : (class y : ℕ) → Fraction
-  exactIn class y = exactFigureOf (inClass class (factorsOf (recordAt records y))) (exactBefore y)
+  unfoldable pub exactInClass : (class y : ℕ) → Fraction
+  exactInClass class y = exactFigureOf (inClass class (factorsOf (recordAt records y))) (exactBefore y)
 
   -- 'The reference figure uses class 1; [it is] then multiplied by 73, divided by 100';
   unfoldable pub exactReference : (y : ℕ) → Fraction
-  exactReference y = exactIn 1 y ⊗ over 73 100 (omega arith)
+  exactReference y = exactInClass 1 y ⊗ over 73 100 (omega arith)
 
   -- 'the project figure uses class 2 and no 73/100';
   unfoldable pub exactProject : (y : ℕ) → Fraction
-  exactProject y = exactIn 2 y
+  exactProject y = exactInClass 2 y
 
   -- 'Reference less project less entered electricity and fuel grams', over the years first to last.
   unfoldable pub exactReduction : (first last : ℕ) → (electricity fuel : List ℕ) → Fraction

@@ -15,7 +15,7 @@ use Rattle.tunisia.specs.Reduction.{reductionOf}
 use Rattle.tunisia.specs.declared.Reduction.{Reduction}
 
 -- A file, a first and a last year, and grams of electricity and fuel.
-pub record Stretch : Type 0 where
+pub record StretchOfYears : Type 0 where
   pub file : List ℕ
   pub first : ℕ
   pub last : ℕ
@@ -23,11 +23,11 @@ pub record Stretch : Type 0 where
   pub fuel : List ℕ
 
 -- What is answered.
-abbrev pub reported : Stretch → Reduction
+abbrev pub reported : StretchOfYears → Reduction
 reported s = reductionOf (s .file) (s .first) (s .last) (s .electricity) (s .fuel)
 
 -- One year of a file alone.
-abbrev pub alone : (file : List ℕ) → (y : ℕ) → (electricity fuel : List ℕ) → Stretch
+abbrev pub alone : (file : List ℕ) → (y : ℕ) → (electricity fuel : List ℕ) → StretchOfYears
 alone file y electricity fuel = record { file = file; first = y; last = y; electricity = electricity; fuel = fuel }
 
 -- The accepted records of a file, and the ledger after them.
@@ -38,7 +38,7 @@ abbrev pub yearLedger : (file : List ℕ) → Ledger
 yearLedger file = ledgerAfter fresh (acceptedYears file)
 
 -- The stretch is not empty, within the accepted years, and has one entry of each kind of grams for each year.
-abbrev pub Within : Stretch → Type 0
+abbrev pub Within : StretchOfYears → Type 0
 Within s =
     (1 ≤ s .first)
     × (s .first ≤ s .last)

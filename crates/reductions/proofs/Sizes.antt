@@ -24,8 +24,8 @@ pub less-fits : (z : ℤ) (x : ℕ) → mag z + x < 2 ^ 63 → SFits w64 (z -ℤ
 less-fits z x h = record { sfits = omega (arith, less-most z x) }
 
 -- The answer of a call is read back from its bits.
-pub read-back : {z : ℤ} → mag z < 2 ^ 63 → toZ w64 (ofZ w64 z) ≡ z
-read-back h = toZ-ofZ {w = w64} (record { sfits = h })
+pub signed-back : {z : ℤ} → mag z < 2 ^ 63 → toZ w64 (ofZ w64 z) ≡ z
+signed-back h = toZ-ofZ {w = w64} (record { sfits = h })
 
 pub same-size : (z : ℤ) → mag z < 2 ^ 63 → mag (toZ w64 (ofZ w64 z)) ≡ mag z
-same-size z h = rw (read-back h)
+same-size z h = rw (signed-back h)

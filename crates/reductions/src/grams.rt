@@ -24,7 +24,7 @@ fn are_light(grams: &[u64]) -> bool
 }
 
 // Answers all grams of some years together.
-pub fn total(grams: &[u64]) -> u64
+pub fn all_grams(grams: &[u64]) -> u64
     requires { ⌜ (gramsLight (now grams) ≡ true) × (length (now grams) ≤ 1200) ⌝ }
     ensures { λ r. ⌜ (r ≡ allGrams (now (grams .entry))) × (r ≤ 1200 * mostGrams) ⌝ }
 {

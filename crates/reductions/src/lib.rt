@@ -4,8 +4,8 @@ mod grams;
 mod year;
 
 pub use grams::GRAMS_LIMIT;
+pub use grams::all_grams;
 pub use grams::less_all;
 pub use grams::stretch_refusal;
-pub use grams::total;
 pub use year::Sums;
 pub use year::with_year;

@@ -70,16 +70,16 @@ as-yearly-month (suc q) z = as-yearly-some (suc q) true (λ n. omega arith) z
 
 -- what the turn at the head decides in this mode
 module _ (l : Ledger) (bytes : List ℕ) (rest : List (List ℕ)) where
-  pub goes-on : refusalByYear l bytes ≡ 0
+  pub year-goes-on : refusalByYear l bytes ≡ 0
       → (leading (turnsByYear l (bytes ∷ rest)) ≡ acceptedTurn l bytes ∷ leading (turnsByYear (acceptedOf l bytes .ledger) rest))
       × (ending (turnsByYear l (bytes ∷ rest)) ≡ ending (turnsByYear (acceptedOf l bytes .ledger) rest))
   unfolding turnsByYear turnByYear leading ending acceptedOf
-  goes-on e = (rw e, rw e)
+  year-goes-on e = (rw e, rw e)
 
-  pub stops : (refusalByYear l bytes ≡ 0 → ⊥)
+  pub year-stops : (refusalByYear l bytes ≡ 0 → ⊥)
       → (leading (turnsByYear l (bytes ∷ rest)) ≡ []) × (ending (turnsByYear l (bytes ∷ rest)) ≡ refusalByYear l bytes)
   unfolding turnsByYear turnByYear leading ending refusedOf
-  stops e = let ne = ne-eqb (refusalByYear l bytes) 0 e in (simp ne, simp ne)
+  year-stops e = let ne = ne-eqb (refusalByYear l bytes) 0 e in (simp ne, simp ne)
 
 -- A ledger whose records are yearly, and whose next one is yearly where it has none.
 abbrev Yearly : Ledger → (left : List ℕ) → Type 0
@@ -136,7 +136,7 @@ module _ (l : Ledger) (left : List ℕ) (room : ℕ) (enough : recordBytes ≤ r
         | yes e ↦
             let on = more e in
             let r = runOf (acceptedOf l bytes .ledger) xs (room - recordBytes) in
-            let went = goes-on l bytes xs (taken-by-year e) in
+            let went = year-goes-on l bytes xs (taken-by-year e) in
             let far : recordBytes * suc (length (r .accepted)) ≡ recordBytes + recordBytes * length (r .accepted) = omega arith in
             rw (run-goes-on l bytes xs room e)
             (record {
@@ -144,7 +144,7 @@ module _ (l : Ledger) (left : List ℕ) (room : ℕ) (enough : recordBytes ≤ r
               refusal = rw (first, far) (went .1 ∙ on .refusal ∙ ap (λ (rest : List ℕ). asYearly (r .refusal) (isMonthly (kindOf rest))) (drop-drop (recordBytes * length (r .accepted)) recordBytes left));
             })
         | no e ↦
-            let stopped = stops l bytes xs (λ z. as-yearly-some (refusalOf l bytes room) (isMonthly (kindOf left)) e (sym by-year-is ∙ z)) in
+            let stopped = year-stops l bytes xs (λ z. as-yearly-some (refusalOf l bytes room) (isMonthly (kindOf left)) e (sym by-year-is ∙ z)) in
             rw (run-stops l bytes xs room (refusalOf l bytes room) refl e) (record { accepted = rw first (stopped .0); refusal = rw first (stopped .1 ∙ by-year-is) })
       ])
 
@@ -184,7 +184,7 @@ monthly-file file e =
     let bytes = take recordBytes file in
     let q : refusalByYear fresh bytes ≡ asYearly (refusalOf fresh bytes recordBytes) true
     = rw (getD-take recordBytes file 2 0 (omega arith), e) at (refused-by-year fresh bytes) in
-    let stopped = stops fresh bytes (recordsOf (drop recordBytes file)) (λ z. as-yearly-month (refusalOf fresh bytes recordBytes) (sym q ∙ z)) in
+    let stopped = year-stops fresh bytes (recordsOf (drop recordBytes file)) (λ z. as-yearly-month (refusalOf fresh bytes recordBytes) (sym q ∙ z)) in
     rw (first-record file some) (stopped .0, stopped .1 ∙ q)
 
 -- The run of the first record alone, which may be short.

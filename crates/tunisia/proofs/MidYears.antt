@@ -95,11 +95,11 @@ module _ {first last : ℕ} {file : List ℕ} {l : Ledger} {w : Walked} {at : �
         })
 
 -- Where no stretch follows.
-pub years-end : {first last : ℕ} {file : List ℕ} {l : Ledger} {w : Walked} {at refusal : ℕ} → MidYears first last file l w at refusal → (refusal ≡ 0 → length file ≤ at)
+pub walk-ends : {first last : ℕ} {file : List ℕ} {l : Ledger} {w : Walked} {at refusal : ℕ} → MidYears first last file l w at refusal → (refusal ≡ 0 → length file ≤ at)
     → (record { sums = w .sums; years = w .n; refused = refusal } ≡ takenOver first last (wholeRun file .accepted) (wholeRun file .refusal))
     × ((SumsFit (w .sums)) × (recordBytes * w .n ≤ length file) × (w .n ≤ mostRecords))
 unfolding takenOver
-years-end {first} {last} {file} {l} {w} {at} {refusal} h end =
+walk-ends {first} {last} {file} {l} {w} {at} {refusal} h end =
     let whole : wholeRun file ≡ record { ledger = l; accepted = h .done; refusal = refusal } = h .so-far ∙ by-refusal (ℕ-discrete refusal 0) in
     (rw (whole, h .walks .sums, h .walks .n, h .walks .counted), (walk-fits (h .walks), omega (arith, h .walks .n, h .walks .counted, h .passed, h .in-file), omega (arith, h .walks .n, sound-is l (h .walks .good) .few)))
   where

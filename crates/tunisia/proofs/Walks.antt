@@ -20,7 +20,7 @@ use Rattle.run.specs.History.{Turn}
 use Rattle.run.proofs.History.{acceptedTurn}
 use Rattle.reductions.specs.Year.{Year, stretchOf, sumsOf, withYear}
 use Rattle.reductions.proofs.Years.{stretch-more, sums-more, reference-most, project-most, bounds-most, apart-most}
-use Rattle.tunisia.specs.Years.{yearOf, yearsFrom, yearsOf}
+use Rattle.tunisia.specs.Years.{countedYear, yearsFrom, yearsOf}
 use Rattle.tunisia.specs.Walk.{nextYear, walkedOn, noneWalked, Ready, SumsFit}
 use Rattle.tunisia.specs.declared.year.Walked.{Walked}
 
@@ -30,10 +30,10 @@ lastX0 x0 [] = x0
 lastX0 x0 (turn ∷ rest) = lastX0 (turn .answer .x0) rest
 
 -- One record more has one year more.
-pub years-more : (x0 : ℕ) (done : List Turn) (turn : Turn) → yearsFrom x0 (done ++ (turn ∷ [])) ≡ yearsFrom x0 done ++ (yearOf (lastX0 x0 done) turn ∷ [])
+pub years-more : (x0 : ℕ) (done : List Turn) (turn : Turn) → yearsFrom x0 (done ++ (turn ∷ [])) ≡ yearsFrom x0 done ++ (countedYear (lastX0 x0 done) turn ∷ [])
 unfolding yearsFrom
 years-more x0 [] turn = refl
-years-more x0 (one ∷ done) turn = ap (λ (ys : List Year). yearOf x0 one ∷ ys) (years-more (one .answer .x0) done turn)
+years-more x0 (one ∷ done) turn = ap (λ (ys : List Year). countedYear x0 one ∷ ys) (years-more (one .answer .x0) done turn)
 
 pub last-more : (x0 : ℕ) (done : List Turn) (turn : Turn) → lastX0 x0 (done ++ (turn ∷ [])) ≡ turn .answer .x0
 last-more x0 [] turn = refl
@@ -94,8 +94,8 @@ module _ {first last : ℕ} {done : List Turn} {l : Ledger} {w : Walked} (h : Wa
   abbrev year : Year
   year = nextYear w bytes
 
-  year-is : yearOf (lastX0 0 done) (acceptedTurn l bytes) ≡ year
-  unfolding yearOf nextYear
+  year-is : countedYear (lastX0 0 done) (acceptedTurn l bytes) ≡ year
+  unfolding countedYear nextYear
   year-is = rw (h .n, h .T, h .x0)
 
   abbrev test : Bool

@@ -43,8 +43,8 @@ refusalAfter file = ending (turnsByYear fresh (recordsOf file))
 
 -- 'the figure of year y uses the release of year y − 1, which is 0 in year 1, with record y's factors'; n and T before record y are those of
 -- period y − 1, and 0 in year 1, where B is then 0 too.
-unfoldable pub yearOf : (release : ℕ) → Turn → Year
-yearOf release turn =
+unfoldable pub countedYear : (release : ℕ) → Turn → Year
+countedYear release turn =
     record {
       number = turn .before .n + 1;
       factors = factorsOf (turn .bytes);
@@ -54,7 +54,7 @@ yearOf release turn =
 
 unfoldable pub yearsFrom : (release : ℕ) → List Turn → List Year
 yearsFrom release [] = []
-yearsFrom release (turn ∷ rest) = yearOf release turn ∷ yearsFrom (turn .answer .x0) rest
+yearsFrom release (turn ∷ rest) = countedYear release turn ∷ yearsFrom (turn .answer .x0) rest
 
 unfoldable pub yearsOf : List Turn → List Year
 yearsOf turns = yearsFrom 0 turns

@@ -8,9 +8,9 @@ ghost use Prim.Native.Nat.{_*_, _^_, _≤_};
 ghost use lib.Signed.{mag};
 ghost use Rattle.tunisia.specs.Reduction.{reductionOf};
 use accepted::accepted_years;
+use reductions::all_grams;
 use reductions::less_all;
 use reductions::stretch_refusal;
-use reductions::total;
 
 // The refusal of the stretch, 0 if none; reference, project, reduction and bound in grams CO2e; how many years were accepted, and the
 // refusal of the record after them, 0 if none.
@@ -53,8 +53,8 @@ pub fn reduction_over(
     let reduction = less_all(
         sums.reference,
         sums.project,
-        total(electricity),
-        total(fuel),
+        all_grams(electricity),
+        all_grams(fuel),
     );
     Reduction {
         refusal: 0,

@@ -6,7 +6,7 @@ use native.Mathlib.Omega.{arith}
 use borrow.Author.Needs.{needs}
 use lib.ListN.{length}
 use Rattle.reductions.specs.Stretch.{gramsLight, stretchRefusal}
-use Rattle.reductions.proofs.Sizes.{read-back}
+use Rattle.reductions.proofs.Sizes.{signed-back}
 use Rattle.reductions.proofs.Entries.{entries-light, entries-count}
 use Rattle.tunisia.proofs.Answers.{refused-is, answered-is}
 use Rattle.tunisia.proofs.Ranges.{with-size}
@@ -32,7 +32,7 @@ returns-2 c =
     let a = s .before .before .before .before .before .args in
     with-size (a .file .now) (a .first) (a .last) (a .electricity .now) (a .fuel .now)
     (answered-is (a .file .now) (a .first) (a .last) (a .electricity .now) (a .fuel .now) (taken .ensures .0) (s .stretch-refusal .ensures) (search needs)
-    (read-back (c .less-all .ok) ∙ c .less-all .ensures) (totals .before .total .ensures .0) (totals .total2 .ensures .0))
+    (signed-back (c .less-all .ok) ∙ c .less-all .ensures) (totals .before .all-grams .ensures .0) (totals .all-grams2 .ensures .0))
 
 pub reduction-over-spec : {M : Type 1} → statement M
 reduction-over-spec =
@@ -42,4 +42,4 @@ reduction-over-spec =
     with-size (a .file .now) (a .first) (a .last) (a .electricity .now) (a .fuel .now)
     (refused-is (a .file .now) (a .first) (a .last) (a .electricity .now) (a .fuel .now) (taken .ensures .0) (s .stretch-refusal .ensures) (c .if1 .taken)))
     (λ c κs. light (c .before) .0) (λ c κs. light (c .before .before) .1)
-    (λ c κs. let taken = c .before .before .before .before .before .accepted-years .ensures .1 .0 in omega (arith, taken .0, taken .1, c .total2 .ensures .1, c .before .total .ensures .1)) returns-2)
+    (λ c κs. let taken = c .before .before .before .before .before .accepted-years .ensures .1 .0 in omega (arith, taken .0, taken .1, c .all-grams2 .ensures .1, c .before .all-grams .ensures .1)) returns-2)

@@ -2,7 +2,7 @@
 use native.Mathlib.Omega.{arith}
 use borrow.Author.Needs.{needs}
 use Rattle.reductions.specs.Stretch.{lessAll}
-use Rattle.reductions.proofs.Sizes.{read-back, same-size}
+use Rattle.reductions.proofs.Sizes.{signed-back, same-size}
 use Rattle.reductions.proofs.grams.less_all.Statement.{statement}
 use Rattle.reductions.proofs.grams.less_all.Tie as tie
 
@@ -19,13 +19,13 @@ returns c =
     let third = c .before in
     let second = third .before in
     rw (
-      read-back (c .less3 .ok),
+      signed-back (c .less3 .ok),
       c .less3 .ensures .0,
-      read-back (third .less2 .ok),
+      signed-back (third .less2 .ok),
       third .less2 .ensures .0,
-      read-back (second .less .ok),
+      signed-back (second .less .ok),
       second .less .ensures .0,
-      read-back (second .before .signed .ok),
+      signed-back (second .before .signed .ok),
       second .before .signed .ensures .0,
     )
 

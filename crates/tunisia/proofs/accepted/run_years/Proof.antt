@@ -6,7 +6,7 @@ use borrow.Author.Needs.{needs}
 use lib.ListN.{length, take, drop, length-take}
 use Rattle.stretches.specs.Stretches.{stretchBytes}
 use Rattle.stretches.proofs.Stretches.{Stretch, stretch-is, goes, no-more}
-use Rattle.tunisia.proofs.MidYears.{MidYears, years-start, output-stays, all-ready, years-go-on, years-end}
+use Rattle.tunisia.proofs.MidYears.{MidYears, years-start, output-stays, all-ready, years-go-on, walk-ends}
 use Rattle.tunisia.proofs.accepted.run_years.Statement.{statement}
 use Rattle.tunisia.proofs.accepted.run_years.Tie as tie
 
@@ -68,4 +68,4 @@ run-years-spec =
     walk-over-requires
     (λ c. let r = c .before .before .before .before in omega (arith, end r .far (more (r .before .before .before .before) .1), end r .in-file)) loop-again
     (λ c. search needs)
-    (λ c. let loop = c .before .before .before .loop in years-end (loop .inv .0) (no-more (loop .refusal) (loop .at) (length (c .before .before .before .before .before .before .before .args .file .now)) (c .before .before .loop-test .left))))
+    (λ c. let loop = c .before .before .before .loop in walk-ends (loop .inv .0) (no-more (loop .refusal) (loop .at) (length (c .before .before .before .before .before .before .before .args .file .now)) (c .before .before .loop-test .left))))

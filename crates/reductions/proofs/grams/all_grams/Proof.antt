@@ -6,8 +6,8 @@ use borrow.Author.Needs.{needs}
 use lib.ListN.{length, drop, drop-of-length-le}
 use Rattle.reductions.specs.Stretch.{allGrams}
 use Rattle.reductions.proofs.Entries.{light-most, grams-on}
-use Rattle.reductions.proofs.grams.total.Statement.{statement}
-use Rattle.reductions.proofs.grams.total.Tie as tie
+use Rattle.reductions.proofs.grams.all_grams.Statement.{statement}
+use Rattle.reductions.proofs.grams.all_grams.Tie as tie
 
 abbrev Inv-loop : tie.InvT-loop
 Inv-loop grams sum₀ i₀ sum i = (i ≤ length grams) × (allGrams grams ≡ sum + allGrams (drop i grams))
@@ -35,7 +35,7 @@ returns c =
     let all : allGrams grams ≡ s .loop .sum + 0 = s .loop .inv .1 ∙ rw (drop-of-length-le grams {i = s .loop .i} (search needs)) in
     (omega (arith, all), omega (arith, all, light-most grams (s .before .pre .0), s .before .pre .1))
 
-pub total-spec : {M : Type 1} → statement M
-total-spec =
+pub all-grams-spec : {M : Type 1} → statement M
+all-grams-spec =
     tie.close
     (tie.spec Inv-loop μ-loop (λ c. (omega arith, omega arith)) (λ c. search needs) (λ c. search needs) adds (λ c. search needs) (λ c. search needs) loop-again returns)
