@@ -19,7 +19,7 @@ use Rattle.carbon.specs.Carbon.{mostRecords, mostBrought, entryAt, ceilingOf}
 use Rattle.carbon.proofs.Laws.{entry-small, left-most}
 use Rattle.year_factors.specs.YearFactors.{noYear, shares, soundYear}
 use Rattle.year_factors.proofs.Laws.{year-stays}
-use Rattle.ledger.specs.Step.{fresh, newBrought, held, newStock, release, newReleased, after}
+use Rattle.ledger.specs.Step.{fresh, stockAt, newBrought, held, newStock, release, newReleased, after}
 use Rattle.refusal.specs.Refusal.{continues, faultsOf}
 use Rattle.ledger.specs.Refusal.{sound, allZero, emptyAt, refusalOf}
 use Rattle.ledger.specs.Take.{acceptedOf}
@@ -134,6 +134,11 @@ stays-sound l bytes a =
 pub fresh-sound : sound fresh ≡ true
 unfolding fresh sound allZero emptyAt soundYear noYear
 fresh-sound = refl
+
+-- Nothing is left in it of any type.
+pub fresh-stock : (t : ℕ) → t < 8 → stockAt fresh t ≡ 0
+unfolding fresh
+fresh-stock t h = eight-at (λ t. 0) t h
 
 -- The ledger of an accepted answer is sound.
 pub accepted-sound : (l : Ledger) (bytes : List ℕ) → Accepted l bytes → sound (acceptedOf l bytes .ledger) ≡ true

@@ -109,6 +109,10 @@ pub either-true : (a b : Bool) → (a || b) ≡ true → (a ≡ true) ⊎ (b ≡
 either-true true b e = inl refl
 either-true false b e = inr e
 
+pub either-false : (a b : Bool) → (a || b) ≡ false → (a ≡ false) × (b ≡ false)
+either-false false b e = (refl, e)
+either-false true b e = (e, cc)
+
 -- Where all of some tests hold, each does.
 abbrev pub AllTrue : List Bool → Type 0
 AllTrue [] = Unit

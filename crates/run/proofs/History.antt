@@ -5,7 +5,7 @@ use Prim.Native.Nat.{ℕ, zero, suc, _+_, _-_, _*_, _/_, _≤_, _<_}
 use native.Mathlib.Decide.{ℕ-discrete}
 use native.Mathlib.Omega.{arith}
 use borrow.Author.Tests.{eq-eqb, ne-eqb}
-use lib.ListN.{length, take, drop, length-drop, length-append}
+use lib.ListN.{length, take, drop, length-drop, length-append, length-take}
 use lib.Seq.{take-append-le, drop-append-le, take-all}
 use Rattle.record.specs.Fields.{recordBytes}
 use Rattle.carbon.specs.Carbon.{mostRecords}
@@ -106,6 +106,15 @@ run-ends l room = refl
 pub on-from : (done : List Turn) (turn : Turn) (r : Run) → onFrom done (onFrom (turn ∷ []) r) ≡ onFrom (done ++ (turn ∷ [])) r
 on-from done turn r = λ i. record { ledger = r .ledger; accepted = sym (append-assoc done (turn ∷ []) (r .accepted)) i; refusal = r .refusal }
 
+-- A run that refuses nothing takes its first record, and refuses none of the rest.
+pub run-takes : (l : Ledger) (bytes : List ℕ) (rest : List (List ℕ)) (room : ℕ) → runOf l (bytes ∷ rest) room .refusal ≡ 0
+    → (refusalOf l bytes room ≡ 0) × (runOf (acceptedOf l bytes .ledger) rest (room - recordBytes) .refusal ≡ 0)
+run-takes l bytes rest room none =
+    elim (ℕ-discrete (refusalOf l bytes room) 0) [
+      | yes e ↦ (e, sym (ap (λ (r : Run). r .refusal) (run-goes-on l bytes rest room e)) ∙ none)
+      | no e ↦ absurd (e (sym (ap (λ (r : Run). r .refusal) (run-stops l bytes rest room (refusalOf l bytes room) refl e)) ∙ none))
+    ]
+
 -- Two stretches of records are one, where the first ends without refusal.
 pub run-join : (l : Ledger) (xs ys : List (List ℕ)) (room : ℕ) → runOf l xs room .refusal ≡ 0
     → runOf l (xs ++ ys) room ≡ onFrom (runOf l xs room .accepted) (runOf (runOf l xs room .ledger) ys (room - recordBytes * length xs))
@@ -160,6 +169,21 @@ run-counts l (bytes ∷ xs) room h =
 
 pub run-most : (l : Ledger) (xs : List (List ℕ)) (r : Run) → Counts l xs r → length (r .accepted) ≤ length xs
 run-most l xs r c = elim (ℕ-discrete (r .refusal) 0) [ yes e ↦ omega (arith, c .all e) | no e ↦ omega (arith, c .fewer e) ]
+
+-- A file that is accepted to its end is whole records.
+pub run-whole : (k : ℕ) (file : List ℕ) → length file ≤ k → (l : Ledger) (room : ℕ) → runOf l (recordsOf file) room .refusal ≡ 0
+    → recordBytes * length (recordsOf file) ≡ length file
+run-whole zero file short l room none = rw (no-records file (omega arith)) (omega arith)
+run-whole (suc k) file short l room none =
+    elim (ℕ-discrete (length file) 0) [
+      | yes z ↦ rw (no-records file z) (omega (arith, z))
+      | no z ↦
+          let first = first-record file (omega (arith, z)) in
+          let took = run-takes l (take recordBytes file) (recordsOf (drop recordBytes file)) room (rw first at none) in
+          let size = accepted-meets l (take recordBytes file) room (took .0) .size in
+          let on = run-whole k (drop recordBytes file) (simp length-drop (omega arith)) (acceptedOf l (take recordBytes file) .ledger) (room - recordBytes) (took .1) in
+          omega (arith, ap length first, on, size, length-take recordBytes file, length-drop recordBytes file)
+    ]
 
 -- With room for every output record, how much room there is changes nothing.
 pub run-roomy : (l : Ledger) (xs : List (List ℕ)) (room more : ℕ) → recordBytes * length xs ≤ room → recordBytes * length xs ≤ more
