@@ -1,0 +1,4 @@
+pub mod Alone
+pub mod Midway
+pub mod MidColumn
+pub mod MidFigures
