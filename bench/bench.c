@@ -1,10 +1,12 @@
 /* Runs one peer, or another entry of the library, over the first records of a monthly file of 1200, or of the same by year or
  * with a dry matter of sludge; or puts these records right as if they were shuffled; or works the reduction of the first years
- * out; or shares a total by the first of 400 samples; or works a correction factor out; or looks an entry of the decay table up;
- * or compares what all peers write, and fails where one refuses a record, a stretch or a total, library and reference differ,
- * two put a file right, share a total or look an entry up unlike, or a factor is not as expected.
- * Usage: bench PEER COUNT, bench ENTRY COUNT, bench REPAIRER COUNT, bench REDUCER COUNT, bench SHARER COUNT, bench WORKER FACTOR
- * or bench FINDER RATE, with the number in four digits; bench compare */
+ * out, or the columns of the first records; or shares a total by the first of 400 samples; or works a correction factor out; or
+ * looks an entry of the decay table up; or compares what all peers write, and fails where one refuses a record, a stretch,
+ * columns or a total, library and reference differ, figures by columns are not those of a run, two put a file right, share a
+ * total or look an entry up unlike, or a factor is not as expected.
+ * Usage: bench PEER COUNT, bench ENTRY COUNT, bench REPAIRER COUNT, bench REDUCER COUNT, bench FILLER COUNT, bench SHARER COUNT,
+ * bench WORKER FACTOR or bench FINDER RATE, with the number in four digits; bench compare */
+#include "columns.h"
 #include "doubles.h"
 #include "factors.h"
 #include "inputs.h"
@@ -22,11 +24,16 @@
 
 enum { RECORDS = 1200, BYTES = 48, PEERS = 5, ENTRIES = 5, EQUATION = 4, MOST_BY_EQUATION = 120 };
 enum { SAMPLES = 400, TOTAL = 987654321, SHARERS = 3 };
-enum { WORKED = 2, WORKERS = 3, FINDERS = 4, REPAIRERS = 3, REDUCERS = 3 };
+enum { WORKED = 2, WORKERS = 3, FINDERS = 4, REPAIRERS = 3, REDUCERS = 3, FILLERS = 3, COLUMNS = 9 };
 
 static uint8_t file[RECORDS * BYTES], out[PEERS][RECORDS * BYTES], text[90 * (RECORDS + 1)];
 static uint8_t samples[SAMPLES * LANDFILL_SAMPLE_BYTES], report[REPAIRERS][RECORDS];
 static uint64_t electricity[RECORDS], fuel[RECORDS];
+
+/* Nine columns and the end stocks, of each filler. */
+static struct filled {
+    uint64_t columns[COLUMNS][RECORDS], stocks[LANDFILL_TYPES];
+} filled[FILLERS];
 
 /* Takes correction factor, site class and captured f from the month before. */
 static void repeat_year(uint8_t *record)
@@ -139,6 +146,12 @@ static const struct {
 } reducers[REDUCERS] = {
     {"tunisia", landfill_tunisia}, {"reductions", reductions_by_exp}, {"reference-tunisia", reference_tunisia}};
 
+static const struct {
+    const char *name;
+    columns_work *fill;
+} fillers[FILLERS] = {
+    {"columns", landfill_columns}, {"columns-by-exp", columns_by_exp}, {"reference-columns", reference_columns}};
+
 typedef uint8_t sharing(uint8_t kind, uint64_t total, const uint8_t *samples, size_t samples_len, uint32_t *masses);
 
 static const struct {
@@ -226,27 +239,43 @@ static void make_years(int measured)
     }
 }
 
+/* How far a peer's figures are from the library's, at most, the bound of the library's figure there, and how many are as far
+ * apart as the bound or farther. */
+struct distance {
+    uint64_t most, bound_there, outside;
+};
+
+static void widen(struct distance *to, int64_t difference, uint64_t bound)
+{
+    uint64_t apart = (uint64_t)(difference < 0 ? -difference : difference);
+    if (apart > to->most) {
+        to->most = apart;
+        to->bound_there = bound;
+    }
+    to->outside += apart >= bound;
+}
+
+/* One line of the table: what a peer wrote, whether in the same bytes as the library, and how far from it. */
+static void print_distance(const char *peer, int measured, size_t count, int same, const struct distance *it)
+{
+    printf("| %s%s | %zu | %s | %" PRIu64 " | %" PRIu64 " | %" PRIu64 " |\n", peer, measured ? ", measured sludge" : "", count,
+           same ? "yes" : "no", it->most, it->bound_there, it->outside);
+}
+
 /* Prints how far the peer's reductions of single years, every eighth, are from the library's, as `compare` does for figures.
  * Tells whether the reference has what the library has. */
 static int all_reduce_alike(int measured)
 {
-    uint64_t most = 0, bound_there = 0, outside = 0;
+    struct distance apart = {0};
     struct reduced its[REDUCERS];
     make_years(measured);
     for (uint64_t y = 8; y <= RECORDS; y += 8) {
         for (int it = 0; it < REDUCERS; it++)
             if (!reduces(it, RECORDS, y, y, &its[it])) return 0;
         if (memcmp(&its[0], &its[2], sizeof its[0]) != 0) return 0;
-        int64_t apart = its[0].reduction - its[1].reduction;
-        if (apart < 0) apart = -apart;
-        if ((uint64_t)apart > most) {
-            most = (uint64_t)apart;
-            bound_there = its[0].bound;
-        }
-        outside += (uint64_t)apart >= its[0].bound;
+        widen(&apart, its[0].reduction - its[1].reduction, its[0].bound);
     }
-    printf("| exp-once, reductions%s | %d | no | %" PRIu64 " | %" PRIu64 " | %" PRIu64 " |\n",
-           measured ? ", measured sludge" : "", RECORDS / 8, most, bound_there, outside);
+    print_distance("exp-once, reductions", measured, RECORDS / 8, 0, &apart);
     return reduces(0, RECORDS, 1, RECORDS, &its[0]) && reduces(2, RECORDS, 1, RECORDS, &its[2]) &&
            memcmp(&its[0], &its[2], sizeof its[0]) == 0;
 }
@@ -296,23 +325,15 @@ static int all_find_alike(void)
     return 1;
 }
 
-/* Prints how far a peer's figures are from the library's, at most, the bound of the library's figure there, and how many
- * records have figures as far apart as the bound or farther. */
-static void compare(int peer, size_t count, const char *sludge)
+/* Prints how far a peer's figures are from the library's. */
+static void compare(int peer, size_t count, int measured)
 {
-    uint64_t most = 0, bound_there = 0, outside = 0;
+    struct distance apart = {0};
     for (size_t i = 0; i < count; i++) {
         const uint8_t *one = out[0] + BYTES * i, *other = out[peer] + BYTES * i;
-        uint64_t figure = reference_read(one + 16, 8), its = reference_read(other + 16, 8);
-        uint64_t apart = figure > its ? figure - its : its - figure, bound = reference_read(one + 24, 8);
-        if (apart > most) {
-            most = apart;
-            bound_there = bound;
-        }
-        outside += apart >= bound;
+        widen(&apart, (int64_t)(reference_read(one + 16, 8) - reference_read(other + 16, 8)), reference_read(one + 24, 8));
     }
-    printf("| %s%s | %zu | %s | %" PRIu64 " | %" PRIu64 " | %" PRIu64 " |\n", peers[peer].name, sludge, count,
-           memcmp(out[0], out[peer], BYTES * count) == 0 ? "yes" : "no", most, bound_there, outside);
+    print_distance(peers[peer].name, measured, count, memcmp(out[0], out[peer], BYTES * count) == 0, &apart);
 }
 
 /* Compares all peers over the monthly file. Tells whether each takes it, and the reference writes what the library does. */
@@ -323,9 +344,37 @@ static int all_run_alike(int measured)
     for (int peer = 1; peer < PEERS; peer++) {
         size_t count = peer == EQUATION ? MOST_BY_EQUATION : RECORDS;
         if (!runs(peer, count)) return 0;
-        compare(peer, count, measured ? ", measured sludge" : "");
+        compare(peer, count, measured);
     }
     return memcmp(out[0], out[1], sizeof out[0]) == 0;
+}
+
+/* Tells whether the columns of the first records are filled; for no records there is no call. */
+static int fills(int it, size_t count)
+{
+    uint64_t(*to)[RECORDS] = filled[it].columns;
+    return count == 0 || fillers[it].fill(file, BYTES * count, to[0], RECORDS, to[1], RECORDS, to[2], RECORDS, to[3], RECORDS,
+                                          to[4], RECORDS, to[5], RECORDS, to[6], RECORDS, to[7], RECORDS, to[8], RECORDS,
+                                          filled[it].stocks) == 0;
+}
+
+/* Prints how far the peer's figures by columns are from the library's. Tells whether the reference has what the library has, and
+ * the library's figures are those of a run. */
+static int all_fill_alike(int measured)
+{
+    struct distance apart = {0};
+    const uint64_t *figures = filled[0].columns[COLUMNS - 1], *its = filled[1].columns[COLUMNS - 1];
+    change_records(LANDFILL_MONTHLY, measured);
+    if (!runs(0, RECORDS)) return 0;
+    for (int it = 0; it < FILLERS; it++)
+        if (!fills(it, RECORDS)) return 0;
+    for (size_t i = 0; i < RECORDS; i++) {
+        const uint8_t *output = out[0] + BYTES * i;
+        if (figures[i] != reference_read(output + 16, 8)) return 0;
+        widen(&apart, (int64_t)(figures[i] - its[i]), reference_read(output + 24, 8));
+    }
+    print_distance("exp-once, columns", measured, RECORDS, memcmp(&filled[0], &filled[1], sizeof filled[0]) == 0, &apart);
+    return memcmp(&filled[0], &filled[2], sizeof filled[0]) == 0;
 }
 
 int main(int words, char **word)
@@ -339,7 +388,8 @@ int main(int words, char **word)
     if (words == 2 && strcmp(word[1], "compare") == 0) {
         int alike = all_run_alike(0) && all_run_alike(1) && all_share_alike(3) && all_share_alike(SAMPLES);
         alike = alike && all_work_alike() && all_find_alike() && all_repair_alike();
-        return alike && all_reduce_alike(0) && all_reduce_alike(1) ? 0 : 1;
+        alike = alike && all_reduce_alike(0) && all_reduce_alike(1);
+        return alike && all_fill_alike(0) && all_fill_alike(1) ? 0 : 1;
     }
     for (int entry = 0; words == 3 && entry < ENTRIES; entry++)
         if (strcmp(word[1], entries[entry].name) == 0) return enters(entry, strtoul(word[2], NULL, 10)) ? 0 : 1;
@@ -351,6 +401,8 @@ int main(int words, char **word)
             make_years(0);
             return reduces(it, count, 1, count, &reduced) ? 0 : 1;
         }
+    for (int it = 0; words == 3 && it < FILLERS; it++)
+        if (strcmp(word[1], fillers[it].name) == 0) return fills(it, strtoul(word[2], NULL, 10)) ? 0 : 1;
     for (int sharer = 0; words == 3 && sharer < SHARERS; sharer++)
         if (strcmp(word[1], sharers[sharer].name) == 0) return shares(sharer, strtoul(word[2], NULL, 10), masses) ? 0 : 1;
     for (int worker = 0; words == 3 && worker < WORKERS; worker++)

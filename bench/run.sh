@@ -1,8 +1,8 @@
 #!/usr/bin/env bash
-# Measures landfill_run beside four peers in C, landfill_repair, landfill_tunisia, landfill_masses and landfill_entry beside one
-# and landfill_factor beside two, and prints the tables of docs/PERFORMANCE.md: instructions for each record, ratios, instructions
-# for each record put right, for each year of a stretch, for one call by samples, by uncertainties and for one look-up, how far
-# the figures are apart, and the library's size.
+# Measures landfill_run beside four peers in C, landfill_repair, landfill_tunisia, landfill_columns, landfill_masses and
+# landfill_entry beside one and landfill_factor beside two, and prints the tables of docs/PERFORMANCE.md: instructions for each
+# record, ratios, instructions for each record put right, for each year of a stretch, for each record by columns, for one call by
+# samples, by uncertainties and for one look-up, how far the figures are apart, and the library's size.
 # Usage: bash bench/run.sh [--library FILE | --standin]
 set -eu
 cd "$(dirname "$0")/.."
@@ -32,7 +32,8 @@ elif command -v valgrind >/dev/null; then counter=by_valgrind
 else stop "neither perf nor valgrind counts instructions here"
 fi
 
-build bench -Ibench bench/*.c tests/c/inputs.c tests/c/reference.c tests/c/entries.c tests/c/reference_years.c "$library"
+build bench -Ibench bench/*.c tests/c/inputs.c tests/c/reference.c tests/c/entries.c tests/c/reference_years.c \
+    tests/c/reference_columns.c "$library"
 run "$target/bench" compare >"$target/compare" || stop "something is refused, or two answers differ: see tests/c/run.sh"
 
 # Lines of PEER RECORDS INSTRUCTIONS, the program's cost with no records taken off.
@@ -96,6 +97,10 @@ for count in $counts; do echo "| $((10#$count)) | $(each repair $count) | $(each
 printf '\nInstructions for each year of a stretch:\n\n| Years | library | doubles |\n|---|---|---|\n'
 for count in $counts; do echo "| $((10#$count)) | $(each tunisia $count) | $(each reductions $count) |"; done
 
+# The call tests all records and columns before it fills them.
+printf '\nInstructions for each record by columns:\n\n| Records | library | doubles |\n|---|---|---|\n'
+for count in $counts; do echo "| $((10#$count)) | $(each columns $count) | $(each columns-by-exp $count) |"; done
+
 printf '\nInstructions for one call by samples:\n\n| Samples | library | plain C |\n|---|---|---|\n'
 for count in 0003 0400; do echo "| $((10#$count)) | $(over_none masses $count) | $(over_none sorted $count) |"; done
 
@@ -136,4 +141,6 @@ linked_for() {
 printf '\nSize of the library, in bytes:\n\n| Part | Bytes |\n|---|---|\n'
 sections "$library" | sort -rn | awk '{ print "| `" $2 "` | " $1 " |" }'
 echo "| all | $(total "$library") |"
-for entry in run take entry tunisia; do echo "| linked for \`landfill_$entry\` alone | $(linked_for "landfill_$entry") |"; done
+for entry in run take entry tunisia columns; do
+    echo "| linked for \`landfill_$entry\` alone | $(linked_for "landfill_$entry") |"
+done

@@ -13,8 +13,9 @@
  *
  * What the caller sees to. None of it is tested, and without it nothing is promised:
  * - A buffer is a pointer, then its length in bytes. So many bytes of one object stand there; they may be read, and also
- *   written where the pointer is not to const. electricity and fuel of landfill_tunisia point to numbers, and their lengths
- *   count numbers. A pointer without a length is to one number, and masses of landfill_masses to eight.
+ *   written where the pointer is not to const. electricity and fuel of landfill_tunisia and the nine columns of
+ *   landfill_columns point to numbers, and their lengths count numbers. A pointer without a length is to one number; masses
+ *   of landfill_masses and stocks of landfill_columns point to eight.
  * - No pointer is NULL, not even where the length is 0.
  * - No two buffers of a call overlap, and no number that the call writes lies in a buffer or in another such number.
  * - Buffers of bytes need no alignment. A number that a pointer is to is aligned as C aligns it.
@@ -67,6 +68,13 @@
  * y; year 1 has figure 0. So the file has a record for each year of the stretch, also for years that bring no waste. The caller
  * enters the grams CO2e of the electricity and the fuel of each year. No year's reference is below its project, so a reduction
  * below zero comes from electricity and fuel alone. The site class of a record is not used here; it still has to be a code.
+ *
+ * By columns. Newcomers check a ledger with one sheet for each waste type. landfill_columns works a site's file out in that
+ * order: all periods of type 1, then all of type 2, and so on; then the figures, by adding across. It gives the same releases,
+ * figures and end stocks as landfill_run and landfill_take, by loops of its own, so each way checks the other. The caller lends
+ * nine columns of 64-bit numbers: first those of types 1 to 8, by type number, then the one for the figures. Each passes as a
+ * pointer and then its number of places, so the columns may lie anywhere and need not have the same length.
+ * landfill_columns_in takes them as one block, one column after the other.
  *
  * Tonnes. A mass is a whole number of kilograms. Tonnes in a float times 1000 often are not: 2.01 * 1000.0 is
  * 2009.9999999999998. Of the 100,000 values 0.01, 0.02, .. 1000.00 t, 1175 come out so (1.2 %), and landfill_cell refuses
@@ -219,8 +227,9 @@ enum {
 
 /* Refusals. The first that holds is the answer, and they are tested in this order: for a record 1, 2, 3, 4, 5, 6, 7, 8, 17, 9;
  * for a total with its samples 14, 15, 16; for uncertainties 18, 19; for a file to repair 20, 21, 22. For landfill_tunisia they
- * are 1, 4, 5, 23, 6, 7, 8, 9 for a record, where 17 cannot come since it is for months, and 24, 25 for a stretch of years. The
- * numbers may come to have gaps. */
+ * are 1, 4, 5, 23, 6, 7, 8, 9 for a record, where 17 cannot come since it is for months, and 24, 25 for a stretch of years. For
+ * landfill_columns they are those of a record, but for 2 and 3, which cannot come, and then 26. The numbers may come to have
+ * gaps. */
 enum {
     LANDFILL_ACCEPTED = 0,           /* not refused */
     LANDFILL_NOT_48_BYTES = 1,       /* the record is not 48 bytes */
@@ -247,7 +256,8 @@ enum {
     LANDFILL_NO_ROOM_FOR_REPAIR = 22, /* the output is shorter than the file, or the report than its number of records */
     LANDFILL_NOT_YEARLY = 23,        /* a monthly record, for landfill_tunisia */
     LANDFILL_NOT_A_STRETCH = 24,     /* there are no years, not all are accepted, or not each has one entry of each kind of grams */
-    LANDFILL_GRAMS_TOO_LARGE = 25    /* an entry of electricity or fuel is over 10^15 grams */
+    LANDFILL_GRAMS_TOO_LARGE = 25,   /* an entry of electricity or fuel is over 10^15 grams */
+    LANDFILL_COLUMN_TOO_SHORT = 26   /* a column has fewer places than the file has records */
 };
 
 /* Makes the image a fresh ledger, all zero, and answers 0.
@@ -360,6 +370,22 @@ uint8_t landfill_repair(const uint8_t *order, size_t order_len, const uint8_t *f
 uint8_t landfill_tunisia(const uint8_t *file, size_t file_len, uint64_t first, uint64_t last, const uint64_t *electricity,
                          size_t electricity_len, const uint64_t *fuel, size_t fuel_len, uint64_t *reference,
                          uint64_t *project, int64_t *reduction, uint64_t *bound, uint64_t *years, uint8_t *refused);
+
+/* Works a site's file out by columns, from a fresh ledger, and answers 0. file is the site's records from its first period on, one
+ * after another, by year or by month. The length of a column counts numbers, not bytes.
+ * With k records, places 0 to k - 1 of a type's column become the carbon that this type released in each period, in mg, and those
+ * of figures become the figures in grams CO2e: what landfill_take answers for the same records. Places from k on stay.
+ * stocks[0] becomes R of type 1 after the last record, the carbon left in mg, .. stocks[7] that of type 8.
+ * Answers the refusal of the first record that landfill_run refuses from a fresh ledger with room for every output record; bytes
+ * at the end that make no whole record are refused with 1, record 1201 with 4. Then answers 26 when one of the nine columns
+ * has fewer than k places. In either case no column is written, and all eight stocks become 0. An empty file is accepted with
+ * columns of any length, also of 0: no column is written then either, and the stocks are 0. */
+uint8_t landfill_columns(const uint8_t *file, size_t file_len, uint64_t *wood, size_t wood_len, uint64_t *paper,
+                         size_t paper_len, uint64_t *food, size_t food_len, uint64_t *textiles, size_t textiles_len,
+                         uint64_t *garden, size_t garden_len, uint64_t *inert, size_t inert_len,
+                         uint64_t *domestic_sludge, size_t domestic_sludge_len, uint64_t *paper_sludge,
+                         size_t paper_sludge_len, uint64_t *figures, size_t figures_len,
+                         uint64_t stocks[LANDFILL_TYPES]);
 
 /* Helpers, compiled into the caller. They take buffers byte by byte, so that byte order and alignment do not matter. */
 
@@ -476,6 +502,17 @@ static inline int landfill_get_changed(uint8_t changes, unsigned type)
     return changes >> (type - 1) & 1;
 }
 
+/* Calls landfill_columns with nine columns of the same length that lie one after the other in a block of 9 * places numbers:
+ * places is the length of one column, not of the block. The release of a type, 1 to 8, in period i + 1 is then
+ * block[(type - 1) * places + i], and the figure is block[8 * places + i]. */
+static inline uint8_t landfill_columns_in(const uint8_t *file, size_t file_len, uint64_t *block, size_t places,
+                                          uint64_t stocks[LANDFILL_TYPES])
+{
+    return landfill_columns(file, file_len, block, places, block + places, places, block + 2 * places, places,
+                            block + 3 * places, places, block + 4 * places, places, block + 5 * places, places,
+                            block + 6 * places, places, block + 7 * places, places, block + 8 * places, places, stocks);
+}
+
 /* The fields of an output record. */
 struct landfill_output {
     uint32_t period, kind, climate;
@@ -556,6 +593,7 @@ static inline const char *landfill_refusal_text(unsigned refusal)
     case LANDFILL_NOT_A_STRETCH:
         return "There are no years, they are not all accepted, or they do not have one entry each of electricity and of fuel.";
     case LANDFILL_GRAMS_TOO_LARGE: return "An entry of electricity or fuel is over 1,000,000,000,000,000 grams.";
+    case LANDFILL_COLUMN_TOO_SHORT: return "A column has fewer places than the file has records.";
     default: return "No refusal has this number.";
     }
 }

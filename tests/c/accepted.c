@@ -3,6 +3,7 @@
 
 #include "offers.h"
 #include "sides.h"
+#include "spoiled.h"
 #include "stretches.h"
 
 /* ---- Files */
@@ -65,34 +66,16 @@ static void one_damaged(void)
 
 /* ---- Refused records */
 
-enum { WAYS_TO_SPOIL = 6 };
-
 /* The refusals of a record in the order in which they are tested. */
 static const uint8_t IN_ORDER[WAYS_TO_SPOIL] = {5, 23, 6, 7, 8, 9};
+enum { AT_7 = 1 << 3 };
 
-/* Makes a record one that is refused with this number, if with no earlier one. */
-static void spoil(uint8_t *record, uint8_t number)
+/* Spoils the record after so many others in each way of a choice, and gives its refusal. A first record cannot be of another
+ * series. */
+static uint8_t spoil_next(size_t before, unsigned choice)
 {
-    switch (number) {
-    case 5: break_rule(record, (int)below(4)); break;
-    case 23: record[2] = 2; break;
-    case 6: add(record, 2, 1 + below(65535)); break;
-    case 7: record[3] = (uint8_t)(record[3] % 4 + 1); break;
-    case 8: break_rule(record, 8 + (int)below(5)); break;
-    case 9: break_rule(record, 13); break;
-    }
-}
-
-/* Spoils the record after so many others in each way of a choice, and gives its refusal; the earliest way comes last. */
-static uint8_t spoil_all(size_t before, unsigned choice)
-{
-    uint8_t refused = 0;
-    for (int way = WAYS_TO_SPOIL - 1; way >= 0; way--) {
-        uint8_t number = IN_ORDER[way];
-        if ((choice >> way & 1) == 0 || (number == 7 && before == 0)) continue;
-        spoil(record_of(before + 1), number);
-        refused = number;
-    }
+    if (before == 0) choice &= ~(unsigned)AT_7;
+    uint8_t refused = spoil(record_of(before + 1), IN_ORDER, choice);
     return before == FULL ? 4 : refused;
 }
 
@@ -101,7 +84,7 @@ static void all_refusals(size_t before)
 {
     for (unsigned choice = 0; choice < 1u << WAYS_TO_SPOIL; choice++) {
         make_site(before + 2);
-        uint8_t refused = spoil_all(before, choice);
+        uint8_t refused = spoil_next(before, choice);
         ask_any(YEAR_BYTES * (before + 1), before + 1);
         hold_years(before + (refused == 0), refused);
         ask_any(YEAR_BYTES * (before + 2), before + (before == 0));

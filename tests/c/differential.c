@@ -1,5 +1,6 @@
 /* Runs the library and the reference on many inputs, good and bad, and compares every answer and every byte.
- * Usage: differential [SEED [tunisia]], where the last word leaves all parts out but the one for reductions */
+ * Usage: differential [SEED [PART]], where PART is ledgers, tunisia or columns and leaves the others out */
+#include "columns.h"
 #include "offers.h"
 #include "orders.h"
 #include "reference.h"
@@ -321,18 +322,35 @@ static void all_ledgers(void)
     all_listings();
 }
 
-/* The part for reductions begins with the seed anew, so that it asks the same alone. */
-int main(int count, char **words)
+static void all_reductions(void)
 {
-    uint64_t number = count > 1 ? strtoull(words[1], NULL, 0) : 1;
-    int alone = count > 2 && strcmp(words[2], "tunisia") == 0;
-    reference_start();
-    seed(number);
-    if (!alone) all_ledgers();
-    seed(number);
     all_entered();
     all_tunisia();
     all_accepted();
+}
+
+static void all_by_columns(void)
+{
+    all_worked();
+    all_columns();
+    all_refused();
+}
+
+static const struct {
+    const char *name;
+    void (*ask)(void);
+} PARTS[] = {{"ledgers", all_ledgers}, {"tunisia", all_reductions}, {"columns", all_by_columns}};
+
+/* Each part begins with the seed anew, so that it asks the same alone. */
+int main(int count, char **words)
+{
+    uint64_t number = count > 1 ? strtoull(words[1], NULL, 0) : 1;
+    reference_start();
+    for (size_t i = 0; i < sizeof PARTS / sizeof *PARTS; i++) {
+        if (count > 2 && strcmp(words[2], PARTS[i].name) != 0) continue;
+        seed(number);
+        PARTS[i].ask();
+    }
     printf("differential: %" PRIu64 " calls, 0 differences (seed %" PRIu64 ")\n", calls(), number);
     return 0;
 }

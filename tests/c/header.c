@@ -1,5 +1,5 @@
-/* Uses every constant and helper of landfill.h and holds each against what was written out by hand. Calls no entry.
- * header.cpp compiles the same as C++. */
+/* Uses every constant and helper of landfill.h and holds each against what was written out by hand. Calls no entry of the
+ * library: the one that a helper calls is here. header.cpp compiles the same as C++. */
 #include "landfill.h"
 #include "landfill.h"
 
@@ -338,12 +338,38 @@ static void check_kg(void)
     check("landfill_kg of what is no number", no_number != no_number);
 }
 
-/* The entry with the most words, declared once more: a compiler stops where the two declarations differ. */
+/* What a call of landfill_columns was given, and what it answers. */
+static struct {
+    const uint8_t *file;
+    size_t file_len;
+    uint64_t *columns[9], *stocks;
+    size_t places[9];
+    int calls;
+    uint8_t answer;
+} asked;
+
+/* The entries with the most words: landfill_tunisia declared once more, and a landfill_columns that writes down what it was
+ * given. A compiler stops where this and the header differ. */
 #ifdef __cplusplus
 extern "C" {
 #endif
 uint8_t landfill_tunisia(const uint8_t *, size_t, uint64_t, uint64_t, const uint64_t *, size_t, const uint64_t *, size_t,
                          uint64_t *, uint64_t *, int64_t *, uint64_t *, uint64_t *, uint8_t *);
+
+uint8_t landfill_columns(const uint8_t *file, size_t file_len, uint64_t *c1, size_t n1, uint64_t *c2, size_t n2, uint64_t *c3,
+                         size_t n3, uint64_t *c4, size_t n4, uint64_t *c5, size_t n5, uint64_t *c6, size_t n6, uint64_t *c7,
+                         size_t n7, uint64_t *c8, size_t n8, uint64_t *c9, size_t n9, uint64_t stocks[LANDFILL_TYPES])
+{
+    uint64_t *const columns[9] = {c1, c2, c3, c4, c5, c6, c7, c8, c9};
+    const size_t places[9] = {n1, n2, n3, n4, n5, n6, n7, n8, n9};
+    memcpy(asked.columns, columns, sizeof columns);
+    memcpy(asked.places, places, sizeof places);
+    asked.file = file;
+    asked.file_len = file_len;
+    asked.stocks = stocks;
+    asked.calls++;
+    return asked.answer;
+}
 #ifdef __cplusplus
 }
 #endif
@@ -359,6 +385,34 @@ static void check_tunisia(void)
     check("the answer of landfill_tunisia",
           sizeof landfill_tunisia(file, sizeof file, 1, 1, electricity, 1, fuel, 1, &reference, &project, &reduction, &bound,
                                   &years, &refused) == 1);
+}
+
+/* The helper hands over what it was given, with the columns one after the other in the block, and answers what it is answered. */
+static void check_block(const uint8_t *file, size_t file_len, uint64_t *block, size_t places, uint64_t *stocks, uint8_t answer)
+{
+    size_t i;
+    asked.calls = 0;
+    asked.answer = answer;
+    check("the answer of landfill_columns_in", landfill_columns_in(file, file_len, block, places, stocks) == answer);
+    check("the number of calls of landfill_columns", asked.calls == 1);
+    check("the file of a block", asked.file == file && asked.file_len == file_len);
+    check("the stocks of a block", asked.stocks == stocks);
+    for (i = 0; i < 9; i++) {
+        check("a column of a block", asked.columns[i] == block + i * places);
+        check("the places of a column of a block", asked.places[i] == places);
+    }
+}
+
+static void check_columns(void)
+{
+    static const uint8_t file[2 * LANDFILL_RECORD_BYTES + 1] = {0};
+    static uint64_t block[1 + 9 * LANDFILL_RECORDS], stocks[2][LANDFILL_TYPES];
+    static const size_t places[] = {0, 1, 2, 3, 255, 256, 257, LANDFILL_RECORDS};
+    size_t i;
+    for (i = 0; i < sizeof places / sizeof places[0]; i++) {
+        check_block(file, sizeof file, block, places[i], stocks[0], 0);
+        check_block(file + 1, 48 * i, block + 1, places[i], stocks[1], (uint8_t)(26 - i));
+    }
 }
 
 /* Every refusal that there is: its number, its name and its text. The numbers may have gaps. */
@@ -397,6 +451,7 @@ static const struct {
     {24, LANDFILL_NOT_A_STRETCH,
      "There are no years, they are not all accepted, or they do not have one entry each of electricity and of fuel."},
     {25, LANDFILL_GRAMS_TOO_LARGE, "An entry of electricity or fuel is over 1,000,000,000,000,000 grams."},
+    {26, LANDFILL_COLUMN_TOO_SHORT, "A column has fewer places than the file has records."},
 };
 static const size_t refusal_count = sizeof refusals / sizeof refusals[0];
 
@@ -459,6 +514,7 @@ int main(void)
     check_changed();
     check_kg();
     check_tunisia();
+    check_columns();
     check_refusals();
     return wrong;
 }

@@ -39,7 +39,7 @@ uint64_t reference_read(const uint8_t *bytes, int count);
 void reference_write(uint8_t *bytes, int count, uint64_t number);
 
 /* The entries of landfill.h, with the same meaning (entries.c; look-up, masses, factors and repair in reference.c, the stretch
- * of years in reference_years.c). */
+ * of years in reference_years.c, the columns and the helper for a block of them in reference_columns.c). */
 uint8_t reference_fresh(uint8_t *ledger, size_t ledger_len);
 uint8_t reference_take(uint8_t *ledger, size_t ledger_len, const uint8_t *record, size_t record_len, uint8_t *out,
                        size_t out_len, uint8_t *answer, size_t answer_len);
@@ -59,5 +59,11 @@ uint8_t reference_repair(const uint8_t *order, size_t order_len, const uint8_t *
 uint8_t reference_tunisia(const uint8_t *file, size_t file_len, uint64_t first, uint64_t last, const uint64_t *electricity,
                           size_t electricity_len, const uint64_t *fuel, size_t fuel_len, uint64_t *reference,
                           uint64_t *project, int64_t *reduction, uint64_t *bound, uint64_t *years, uint8_t *refused);
+uint8_t reference_columns(const uint8_t *file, size_t file_len, uint64_t *wood, size_t wood_len, uint64_t *paper,
+                          size_t paper_len, uint64_t *food, size_t food_len, uint64_t *textiles, size_t textiles_len,
+                          uint64_t *garden, size_t garden_len, uint64_t *inert, size_t inert_len, uint64_t *domestic_sludge,
+                          size_t domestic_sludge_len, uint64_t *paper_sludge, size_t paper_sludge_len, uint64_t *figures,
+                          size_t figures_len, uint64_t stocks[8]);
+uint8_t reference_columns_in(const uint8_t *file, size_t file_len, uint64_t *block, size_t places, uint64_t stocks[8]);
 
 #endif

@@ -15,13 +15,14 @@ enum { PATTERN = 0xA5 };
 static const struct entries LIBRARY = {landfill_fresh,  landfill_take,   landfill_run,   landfill_totals,
                                        landfill_entry,  landfill_cell,   landfill_point, landfill_listing,
                                        landfill_masses, landfill_factor, landfill_factor_by_codes, landfill_repair,
-                                       landfill_tunisia};
+                                       landfill_tunisia, landfill_columns, landfill_columns_in};
 static const struct entries REFERENCE = {reference_fresh,  reference_take,   reference_run,   reference_totals,
                                          reference_entry,  reference_cell,   reference_point, reference_listing,
                                          reference_masses, reference_factor, reference_factor_by_codes, reference_repair,
-                                         reference_tunisia};
-static const char *const NAMES[PLACES] = {"ledger",  "records", "out",    "answer",      "text",
-                                          "samples", "order",   "report", "electricity", "fuel"};
+                                         reference_tunisia, reference_columns, reference_columns_in};
+static const char *const NAMES[PLACES] = {
+    "ledger", "records", "out", "answer", "text", "samples", "order", "report", "electricity", "fuel",
+    "wood", "paper", "food", "textiles", "garden", "inert", "domestic sludge", "paper sludge", "figures", "stocks", "block"};
 
 struct given given;
 static struct side before, library, reference;
@@ -77,6 +78,11 @@ size_t count_of(enum place place)
 const uint8_t *left(enum place place)
 {
     return at(&library, place);
+}
+
+const uint64_t *list_left(enum place place)
+{
+    return list_at(&library, place);
 }
 
 uint64_t number_left(int which)

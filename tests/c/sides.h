@@ -6,7 +6,12 @@
 #include <stddef.h>
 #include <stdint.h>
 
-enum place { LEDGER, RECORDS, OUT, ANSWER, TEXT, SAMPLES, ORDER, REPORT, ELECTRICITY, FUEL, PLACES };
+/* COLUMN is the first of nine places, one for each column. */
+enum { COLUMNS = 9 };
+enum place {
+    LEDGER, RECORDS, OUT, ANSWER, TEXT, SAMPLES, ORDER, REPORT, ELECTRICITY, FUEL,
+    COLUMN, STOCKS = COLUMN + COLUMNS, BLOCK, PLACES
+};
 enum { ZONE = 64, LONGEST = 540000, ROOM = ZONE + 8 + LONGEST + ZONE };
 
 /* The numbers that an entry writes behind pointers stand at the odd places; the even ones are red zones. A place of masses
@@ -40,7 +45,7 @@ struct given {
     uint64_t first, last;     /* years */
 };
 
-/* The entries of landfill.h, of either side. */
+/* The entries of landfill.h, of either side, and its helper that calls one. */
 struct entries {
     uint8_t (*fresh)(uint8_t *, size_t);
     uint8_t (*take)(uint8_t *, size_t, const uint8_t *, size_t, uint8_t *, size_t, uint8_t *, size_t);
@@ -56,6 +61,10 @@ struct entries {
     uint8_t (*repair)(const uint8_t *, size_t, const uint8_t *, size_t, uint8_t *, size_t, uint8_t *, size_t, uint64_t *);
     uint8_t (*tunisia)(const uint8_t *, size_t, uint64_t, uint64_t, const uint64_t *, size_t, const uint64_t *, size_t,
                        uint64_t *, uint64_t *, int64_t *, uint64_t *, uint64_t *, uint8_t *);
+    uint8_t (*columns)(const uint8_t *, size_t, uint64_t *, size_t, uint64_t *, size_t, uint64_t *, size_t, uint64_t *, size_t,
+                       uint64_t *, size_t, uint64_t *, size_t, uint64_t *, size_t, uint64_t *, size_t, uint64_t *, size_t,
+                       uint64_t *);
+    uint8_t (*columns_in)(const uint8_t *, size_t, uint64_t *, size_t, uint64_t *);
 };
 
 typedef void call(const struct entries *entries, struct side *side);
@@ -65,16 +74,18 @@ extern struct given given;
 /* Lends a buffer of so many random bytes for the next call, and gives its bytes to be filled. */
 uint8_t *lend(enum place place, size_t length);
 
-/* The same for a list of so many numbers. */
+/* The same for a list of so many numbers. They stay as they were lent until the place is lent again. */
 uint64_t *lend_list(enum place place, size_t count);
 
-/* A lent buffer's bytes as one side has them, its length, and its bytes after the last call; the numbers of a lent list, and how
- * many there are; the first, second, .. fifth whole number that the last call has written, its byte, and what it answered. */
+/* A lent buffer's bytes as one side has them, its length, and its bytes after the last call; the numbers of a lent list, how many
+ * there are, and those after the last call; the first, second, .. fifth whole number that the last call has written, its byte,
+ * and what it answered. */
 uint8_t *at(struct side *side, enum place place);
 size_t length_of(enum place place);
 const uint8_t *left(enum place place);
 uint64_t *list_at(struct side *side, enum place place);
 size_t count_of(enum place place);
+const uint64_t *list_left(enum place place);
 uint64_t number_left(int which);
 uint8_t byte_left(void);
 uint64_t answer_left(void);

@@ -79,3 +79,15 @@ uint8_t landfill_tunisia(const uint8_t *file, size_t file_len, uint64_t first, u
     return reference_tunisia(file, file_len, first, last, electricity, electricity_len, fuel, fuel_len, reference, project,
                              reduction, bound, years, refused);
 }
+
+uint8_t landfill_columns(const uint8_t *file, size_t file_len, uint64_t *wood, size_t wood_len, uint64_t *paper,
+                         size_t paper_len, uint64_t *food, size_t food_len, uint64_t *textiles, size_t textiles_len,
+                         uint64_t *garden, size_t garden_len, uint64_t *inert, size_t inert_len,
+                         uint64_t *domestic_sludge, size_t domestic_sludge_len, uint64_t *paper_sludge,
+                         size_t paper_sludge_len, uint64_t *figures, size_t figures_len,
+                         uint64_t stocks[LANDFILL_TYPES])
+{
+    return reference_columns(file, file_len, wood, wood_len, paper, paper_len, food, food_len, textiles, textiles_len, garden,
+                             garden_len, inert, inert_len, domestic_sludge, domestic_sludge_len, paper_sludge,
+                             paper_sludge_len, figures, figures_len, stocks);
+}

@@ -14,6 +14,7 @@ ghost use Rattle.samples.specs.Samples.{sortedOf};
 ghost use Rattle.uncertainty.specs.Uncertainty.{entering, byPercentages, byCodes};
 ghost use Rattle.order.specs.Repair.{repairedOf, outLeft, reportLeft};
 ghost use Rattle.tunisia.specs.Reduction.{reductionOf};
+ghost use Rattle.columns.specs.Columns.{nine, columnsOf, filledOf};
 ghost use Rattle.lines.specs.Listing.{listedOf, textOf};
 ghost use Rattle.calls.specs.Calls.{takeHere, takeImage, takeOut, takeAnswer, runHere, runImage};
 ghost use Rattle.landfill.specs.Entries.{cellOf};
@@ -208,6 +209,43 @@ pub extern "C" fn landfill_tunisia(
     *years = over.years;
     *refused = over.refused;
     over.refusal
+}
+
+// Answers 0, fills the columns of the eight types with their releases and the ninth with the figures, and sets the stocks after the last record;
+// or the refusal of a record, or 26, with the columns as they were and stocks 0.
+#[no_mangle]
+pub extern "C" fn landfill_columns(
+    file: &[u8],
+    wood: &mut [u64],
+    paper: &mut [u64],
+    food: &mut [u64],
+    textiles: &mut [u64],
+    garden: &mut [u64],
+    inert: &mut [u64],
+    domestic: &mut [u64],
+    industrial: &mut [u64],
+    figures: &mut [u64],
+    stocks: &mut [u64; 8],
+) -> u8
+    ensures { λ r. ⌜ r ≡ filledOf (now (file .entry)) (nine (now (wood .entry)) (now (paper .entry)) (now (food .entry)) (now (textiles .entry)) (now (garden .entry)) (now (inert .entry)) (now (domestic .entry)) (now (industrial .entry)) (now (figures .entry))) .refusal ⌝ }
+    ensures { λ _. ⌜ nine (now (wood .exit)) (now (paper .exit)) (now (food .exit)) (now (textiles .exit)) (now (garden .exit)) (now (inert .exit)) (now (domestic .exit)) (now (industrial .exit)) (now (figures .exit)) ≡ columnsOf (now (file .entry)) (nine (now (wood .entry)) (now (paper .entry)) (now (food .entry)) (now (textiles .entry)) (now (garden .entry)) (now (inert .entry)) (now (domestic .entry)) (now (industrial .entry)) (now (figures .entry))) ⌝ }
+    ensures { λ _. ⌜ now (stocks .exit) ≡ filledOf (now (file .entry)) (nine (now (wood .entry)) (now (paper .entry)) (now (food .entry)) (now (textiles .entry)) (now (garden .entry)) (now (inert .entry)) (now (domestic .entry)) (now (industrial .entry)) (now (figures .entry))) .stocks ⌝ }
+{
+    let filled = columns::fill(
+        file,
+        wood,
+        paper,
+        food,
+        textiles,
+        garden,
+        inert,
+        domestic,
+        industrial,
+        figures,
+    );
+    let left = filled.stocks;
+    *stocks = left;
+    filled.refusal
 }
 
 // Answers 0 and a figure's point of the chart, or 13 and zeros.
