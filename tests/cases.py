@@ -8,6 +8,7 @@ from collections.abc import Callable
 from itertools import cycle, islice
 from typing import NamedTuple
 
+import columns
 import reference
 import tunisia
 from reference import Ledger, Year, number
@@ -15,7 +16,9 @@ from reference import Ledger, Year, number
 LONGEST = 65536  # bytes of a payload, and of an output buffer
 IMAGE = 200  # bytes of a ledger image
 HEAD = 22  # bytes before the grams of a stretch
-MOST_ENTRIES = 1300  # of electricity, and of fuel
+MOST_ENTRIES = 1300  # of electricity, of fuel, and of a column
+COLUMNS = 9  # eight of releases, and one of figures
+UNTOUCHED = number(b"\xa5" * 8, 0, 8)  # a place of a column that keeps its value
 
 
 def image(ledger):
@@ -105,6 +108,19 @@ def reduction_line(payload):
     return spaced(tunisia.reduction(*read_stretch(payload)))
 
 
+def read_columns(payload):
+    """The file, and the nine columns as they are lent."""
+    end = 2 * COLUMNS
+    places = (min(number(payload, at, 2), MOST_ENTRIES) for at in range(0, end, 2))
+    return payload[end:], tuple((UNTOUCHED,) * count for count in places)
+
+
+def columns_line(payload):
+    answer = columns.calculation(*read_columns(payload))
+    words = (spaced(column) or "-" for column in answer.columns)
+    return " ".join([str(answer.refusal), *words, spaced(answer.stocks)])
+
+
 def fields(ledger):
     return [ledger.n, ledger.kind, ledger.climate, *ledger.year, *ledger.T, *ledger.R, *ledger.released]
 
@@ -135,6 +151,7 @@ KINDS = {
     "k": Kind(factor_by_codes_line, 6, 6),
     "o": Kind(repair_line, 9, LONGEST),
     "t": Kind(reduction_line, HEAD, LONGEST),
+    "b": Kind(columns_line, 2 * COLUMNS, LONGEST),
 }
 
 

@@ -5,8 +5,8 @@
   make_cases.py --store
   make_cases.py --check
 
-GROUP is base, door, samples, released, months, uncertainty, sludge, orders, work, tunisia, all of these, every-sum,
-every-rate or every-order.
+GROUP is base, door, samples, released, months, uncertainty, sludge, orders, work, tunisia, columns, all of these,
+every-sum, every-rate or every-order.
 DIR gets cases.bin and cases.txt, and a pair stop-*.bin, stop-*.txt for each way in which input cannot be read.
 Every run with the same seed writes the same bytes; the stored cases are those of all groups with seed 1. Three groups
 are not among them: every-sum has a case for each sum of squares that uncertainties come to, every-rate a look-up of
@@ -23,6 +23,8 @@ from itertools import zip_longest
 import cases
 from base_cases import base, every_rate
 from cases import case
+from columns_cases import by_columns
+from columns_faults import by_columns_refused
 from door_cases import door
 from months_cases import months
 from order_cases import every_order, orders
@@ -39,7 +41,7 @@ from work_faults import work_stopped
 ROOT = os.path.join(os.path.dirname(os.path.abspath(__file__)), "..")
 GROUPS = {"base": [base], "door": [door], "samples": [samples], "released": [released], "months": [months]}
 GROUPS |= {"uncertainty": [uncertainty], "sludge": [sludge], "orders": [orders], "work": [work, work_stopped]}
-GROUPS["tunisia"] = [years, years_refused]
+GROUPS |= {"tunisia": [years, years_refused], "columns": [by_columns, by_columns_refused]}
 GROUPS["all"] = [cases_of for group in GROUPS.values() for cases_of in group]
 GROUPS["every-sum"] = [every_sum]
 GROUPS["every-rate"] = [every_rate]
@@ -63,6 +65,8 @@ STOPS = {
     "order-long": FIRST + b"o" + little([(cases.LONGEST + 1, 4)]),
     "years-21": FIRST + case("t", bytes(cases.HEAD - 1)) + FIRST,
     "years-long": FIRST + b"t" + little([(cases.LONGEST + 1, 4)]),
+    "columns-17": FIRST + case("b", bytes(2 * cases.COLUMNS - 1)) + FIRST,
+    "columns-long": FIRST + b"b" + little([(cases.LONGEST + 1, 4)]),
     "payload": FIRST + FIRST[:-1],
 }
 

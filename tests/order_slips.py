@@ -3,16 +3,14 @@
 Each has a name, and functions that it puts in the place of the reference's. It always gives an answer: one that takes
 what is no order, or no whole file, writes something.
 """
-import random
 import struct
 from functools import reduce
 from itertools import accumulate, pairwise
 from math import prod
 from operator import ne, or_
 from typing import NamedTuple
-from unittest import mock
 
-import cases
+import misread
 import reference
 from order_cases import all_bits, inverse, orders, sums
 from reference import BYTES, MASS_LIMIT, MASSES, RECORDS, TYPES, is_order, little, mass_at, put_right, records_of
@@ -417,9 +415,4 @@ READINGS = ORDERS | REFUSALS | PLACES | REPORTS | COUNTS | WRITTEN | LEFT
 
 def unseen():
     """The names of the readings that give the line of every stored case."""
-    payloads = [each[5:] for each in orders(random.Random(1))]
-    lines = [cases.repair_line(payload) for payload in payloads]
-    for name, functions in READINGS.items():
-        with mock.patch.multiple(reference, **functions):
-            if all(cases.repair_line(payload) == line for payload, line in zip(payloads, lines)):
-                yield name
+    return misread.unseen(READINGS, reference, "o", orders)

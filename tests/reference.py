@@ -2,7 +2,7 @@
 
 One function for each rule, in the documents' order and with their letters. Numbers are exact, and everything is a
 value: an output buffer goes in as bytes and comes back as bytes. Type j stands at place j - 1 of every list of eight.
-Request i is in tunisia.py, over the rules of this file.
+Request i is in tunisia.py and request j in columns.py, over the rules of this file.
 """
 import os
 import sys
@@ -227,6 +227,7 @@ REFUSALS = {  # every number that there is, by what is refused; they may have ga
     "uncertainties": (18, 19),
     "repair": (20, 21, 22),
     "stretch": (24, 25),
+    "columns": (26,),
 }
 
 

@@ -5,7 +5,7 @@ It holds the refusal numbers to those of docs/METHOD.md, README.md and include/l
 
 Of document 02 it holds masses from samples, the carbon released so far, months that share the year's factors, the
 correction factor from uncertainties, sludge with a measured dry matter, the shuffled files put right, the decay work
-of a run, and the Tunisian reference method.
+of a run, the Tunisian reference method, and the calculation by columns.
 
 Prints ok and exits 0, or stops at the first check that fails.
 """
@@ -18,6 +18,7 @@ from itertools import product
 from math import factorial
 
 import cases
+import columns_checks
 import decay_tables
 import months_checks
 import order_checks
@@ -379,6 +380,10 @@ def main():
     tunisia_checks.stretches()
     tunisia_checks.limits()
     tunisia_checks.months()
+    columns_checks.worked()
+    columns_checks.no_records()
+    columns_checks.too_short()
+    columns_checks.after_the_others()
     tables()
     in_whole_numbers()
     unlikely()
@@ -387,6 +392,7 @@ def main():
     sludge_checks.greatest()
     work_checks.long_runs()
     tunisia_checks.greatest()
+    columns_checks.full()
     rng = random.Random(1)
     for kind, climate in KINDS_AND_CLIMATES:
         for part in (Fraction(0), Fraction(rng.randint(1, 98), 99), 1 - Fraction(1, 10**9), 1 - Fraction(1, 10**40)):
@@ -407,6 +413,10 @@ def main():
     for kind, climate in KINDS_AND_CLIMATES:
         work_checks.at_random(rng, kind, climate)
     tunisia_checks.at_random(rng)
+    columns_checks.one_record(rng)
+    for kind, climate in KINDS_AND_CLIMATES:
+        columns_checks.any_file(rng, kind, climate)
+    columns_checks.short_cases(rng)
     cases_page()
     uncertainty_checks.every_sum()
     order_checks.every_order(rng)

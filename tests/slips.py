@@ -1,8 +1,8 @@
 #!/usr/bin/env python3
 """A test of the selftest: changes each number of the reference by one, up and down, and sees the selftest fail.
 
-And one of the stored cases of requests g, h and i: sees them answered otherwise by every wrong reading in
-order_slips.py, in work_slips.py and in tunisia_slips.py.
+And one of the stored cases of requests g to j: sees them answered otherwise by every wrong reading in order_slips.py,
+in work_slips.py, in tunisia_slips.py and in columns_slips.py.
 
   slips.py    names every change and reading that goes unseen, then counts; status 1 where there is one (some minutes)
 """
@@ -13,14 +13,15 @@ import subprocess
 import sys
 import tempfile
 
+import columns_slips
 import order_slips
 import tunisia_slips
 import work_slips
 
 ROOT = os.path.join(os.path.dirname(os.path.abspath(__file__)), "..")
-FILES = [os.path.join("tests", name) for name in ("reference.py", "tunisia.py")]
+FILES = [os.path.join("tests", name) for name in ("reference.py", "tunisia.py", "columns.py")]
 SAME = "range(16, (48 - 1), 4)"  # the one change that changes nothing
-MISREAD = {"g": order_slips, "h": work_slips, "i": tunisia_slips}  # wrong readings of a request
+MISREAD = {"g": order_slips, "h": work_slips, "i": tunisia_slips, "j": columns_slips}  # wrong readings of a request
 
 
 def numbers(node):
@@ -37,7 +38,7 @@ def numbers(node):
 def slips(lines):
     """Each change: the place of its line, and the line as it then reads. What imports the modules is left as it is."""
     body = ast.parse("\n".join(lines)).body
-    start = next(i for i, part in enumerate(body) if isinstance(part, ast.Assign))
+    start = next(i for i, part in enumerate(body) if isinstance(part, (ast.Assign, ast.ClassDef)))
     for node in (node for part in body[start:] for node in numbers(part)):
         line, first, last = lines[node.lineno - 1], node.col_offset, node.end_col_offset
         for change in ("+ 1", "- 1"):

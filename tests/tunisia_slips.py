@@ -4,11 +4,9 @@ Each has a name, and functions that it puts in the place of tunisia.py's. Those 
 those about a year, a record and a refused stretch in tunisia_year_slips.py, tunisia_record_slips.py and
 tunisia_refusal_slips.py.
 """
-import random
 from typing import NamedTuple
-from unittest import mock
 
-import cases
+import misread
 import tunisia
 import tunisia_record_slips
 import tunisia_refusal_slips
@@ -173,10 +171,5 @@ READINGS = {name: functions for part in PARTS for name, functions in part.READIN
 
 
 def unseen():
-    """The names of the readings that give the line of every stored case; short cases are tried first."""
-    payloads = [each[5:] for cases_of in (years, years_refused) for each in cases_of(random.Random(1))]
-    lines = [(payload, cases.reduction_line(payload)) for payload in sorted(payloads, key=len)]
-    for name, functions in READINGS.items():
-        with mock.patch.multiple(tunisia, **functions):
-            if all(cases.reduction_line(payload) == line for payload, line in lines):
-                yield name
+    """The names of the readings that give the line of every stored case."""
+    return misread.unseen(READINGS, tunisia, "t", years, years_refused)

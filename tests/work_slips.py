@@ -2,12 +2,10 @@
 
 Each has a name, and counts the decay work of a run in its own way.
 """
-import random
 from itertools import accumulate, takewhile
 from typing import NamedTuple
-from unittest import mock
 
-import cases
+import misread
 import reference
 from reference import BYTES, FRESH, MONTHLY, MONTHS, RECORDS, REFUSALS, TYPES, YEARLY, Ledger, Record, deposits
 from reference import figure_of, held, rates, read_record, records_of, run, take, work_of
@@ -232,9 +230,4 @@ READINGS = BY_TYPE | BY_RUN
 
 def unseen():
     """The names of the readings that give the line of every stored case."""
-    payloads = [each[5:] for cases_of in (work, work_stopped) for each in cases_of(random.Random(1))]
-    lines = [cases.run_line(payload) for payload in payloads]
-    for name, functions in READINGS.items():
-        with mock.patch.multiple(reference, **functions):
-            if all(cases.run_line(payload) == line for payload, line in zip(payloads, lines)):
-                yield name
+    return misread.unseen(READINGS, reference, "r", work, work_stopped)

@@ -44,6 +44,7 @@ fn judged(letter: u8, length: usize) -> u8
         b'm' => within(9, length, LONGEST),
         b'o' => within(order_cases::HEAD, length, LONGEST),
         b't' => within(tunisia_cases::HEAD, length, LONGEST),
+        b'b' => within(columns_cases::HEAD, length, LONGEST),
         b'u' | b'k' => within(
             uncertainty_cases::PAYLOAD,
             length,
@@ -65,6 +66,7 @@ fn put_line(letter: u8, payload: &[u8]) {
         b'm' => samples_cases::masses(payload),
         b'o' => order_cases::repair(payload),
         b't' => tunisia_cases::reduction(payload),
+        b'b' => columns_cases::fill(payload),
         b'u' => uncertainty_cases::by_percentages(payload),
         b'k' => uncertainty_cases::by_codes(payload),
         _ => (),

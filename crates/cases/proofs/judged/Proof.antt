@@ -10,6 +10,8 @@ judged-spec =
     tie.close
     (tie.spec (λ c κs. search needs) (λ c κs. search needs) (λ c κs. search needs) (λ c κs. search needs)
     (λ c κs. search needs) (λ c κs. search needs) (λ c κs. search needs) (λ c κs. search needs) (λ c κs. search needs) (λ c κs. search needs)
+    (λ c κs. search needs)
     (λ c fine. le-trans (c .within .ensures fine) (lit≤ tt)) (λ c. search needs) (λ c. search needs) (λ c. search needs)
     (λ c fine. le-trans (c .within5 .ensures fine) (lit≤ tt)) (λ c fine. le-trans (c .within6 .ensures fine) (lit≤ tt))
-    (λ c. search needs) (λ c. search needs) (λ c. search needs) (λ c fine. le-trans (c .within10 .ensures fine) (lit≤ tt)) (λ c. search needs))
+    (λ c. search needs) (λ c. search needs) (λ c. search needs) (λ c. search needs) (λ c fine. le-trans (c .within11 .ensures fine) (lit≤ tt))
+    (λ c. search needs))
