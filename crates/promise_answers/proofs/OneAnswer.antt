@@ -19,6 +19,8 @@ pub mod Uncertainty
 pub mod Order
 pub mod Reductions
 pub mod Tunisia
+pub mod Releases
+pub mod Columns
 pub mod Line
 pub mod Lines
 pub mod Calls

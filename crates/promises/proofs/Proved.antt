@@ -12,6 +12,7 @@ use Rattle.promise_sludge.proofs.Proved.{sludge-promise}
 use Rattle.promise_order.proofs.Proved.{order-promise}
 use Rattle.promise_work.proofs.Proved.{work-promise}
 use Rattle.promise_tunisia.proofs.Proved.{tunisia-promise}
+use Rattle.promise_columns.proofs.Proved.{columns-promise}
 
 pub promises : Promises
 promises =
@@ -28,4 +29,5 @@ promises =
       shuffled-files = order-promise;
       decay-work = work-promise;
       tunisian-reductions = tunisia-promise;
+      columns-of-types = columns-promise;
     }

@@ -12,6 +12,7 @@ use Rattle.promise_sludge.specs.Promise.{SludgePromise}
 use Rattle.promise_order.specs.Promise.{OrderPromise}
 use Rattle.promise_work.specs.Promise.{WorkPromise}
 use Rattle.promise_tunisia.specs.Promise.{TunisiaPromise}
+use Rattle.promise_columns.specs.Promise.{ColumnsPromise}
 
 pub record Promises : Type 0 where
   -- Demand 3, and request b of document 02: released carbon.
@@ -38,3 +39,5 @@ pub record Promises : Type 0 where
   pub decay-work : WorkPromise
   -- Document 02, request i: the Tunisian reference method.
   pub tunisian-reductions : TunisiaPromise
+  -- Document 02, request j: a column-by-column calculation.
+  pub columns-of-types : ColumnsPromise

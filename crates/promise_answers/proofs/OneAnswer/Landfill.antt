@@ -11,7 +11,9 @@ use Rattle.landfill.proofs.landfill_factor.Reads as factor
 use Rattle.landfill.proofs.landfill_factor_by_codes.Reads as factor-by-codes
 use Rattle.landfill.proofs.landfill_repair.Reads as repair
 use Rattle.landfill.proofs.landfill_tunisia.Reads as tunisia
+use Rattle.landfill.proofs.landfill_columns.Reads as columns
 use Rattle.landfill.proofs.landfill_point.Reads as point
+use Rattle.columns.specs.Columns.{nine}
 use Rattle.landfill.proofs.landfill_listing.Reads as listing
 use Rattle.promise_answers.proofs.OneAnswer.{OneAnswer, Settled, by-equation, _&_, both}
 
@@ -51,6 +53,10 @@ pub landfill-tunisia-one : Settled tunisia.Learnt (λ κs r s. let w = s .1 .1 .
 landfill-tunisia-one =
     by-equation (λ κs a r s p. let q = p .1 .1 in
     both (p .0) (both (p .1 .0) (both (q .0) (both (q .1 .0) (both (q .1 .1 .0) (both (q .1 .1 .1 .0) (q .1 .1 .1 .1)))))))
+
+-- file, the nine columns and the stocks
+pub landfill-columns-one : Settled columns.Learnt (λ κs r s. r & nine (now (s .1 .0)) (now (s .1 .1 .0)) (now (s .1 .1 .1 .0)) (now (s .1 .1 .1 .1 .0)) (now (s .1 .1 .1 .1 .1 .0)) (now (s .1 .1 .1 .1 .1 .1 .0)) (now (s .1 .1 .1 .1 .1 .1 .1 .0)) (now (s .1 .1 .1 .1 .1 .1 .1 .1 .0)) (now (s .1 .1 .1 .1 .1 .1 .1 .1 .1 .0)) & now (s .1 .1 .1 .1 .1 .1 .1 .1 .1 .1 .0))
+landfill-columns-one = by-equation (λ κs a r s p. both (p .0) (both (p .1 .0) (p .1 .1)))
 
 pub landfill-point-one : Settled point.Learnt (λ κs r s. r & now (s .1 .1 .0) & now (s .1 .1 .1 .0) & now (s .1 .1 .1 .1 .0))
 landfill-point-one = by-equation (λ κs a r s p. both (p .0) (both (p .1 .0) (both (p .1 .1 .0) (p .1 .1 .1))))

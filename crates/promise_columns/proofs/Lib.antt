@@ -1,0 +1,3 @@
+pub mod Histories
+pub mod Places
+pub mod Proved
