@@ -39,9 +39,10 @@ fn is_short(
 ) -> bool
     ensures { λ r. ⌜ r ≡ (ltb wood records || (ltb paper records || (ltb food records || (ltb textiles records || (ltb garden records || (ltb inert records || (ltb domestic records || (ltb industrial records || (ltb figures records || false))))))))) ⌝ }
 {
-    let sludge = (domestic < records) | ((industrial < records) | (figures < records));
-    let slow = (textiles < records) | ((garden < records) | ((inert < records) | sludge));
-    (wood < records) | ((paper < records) | ((food < records) | slow))
+    let from_domestic = (domestic < records) | ((industrial < records) | (figures < records));
+    let from_textiles = (textiles < records)
+        | ((garden < records) | ((inert < records) | from_domestic));
+    (wood < records) | ((paper < records) | ((food < records) | from_textiles))
 }
 
 // Fills eight columns with the releases of each type and the ninth with the figures, a place for each record of a file from a fresh ledger on,
