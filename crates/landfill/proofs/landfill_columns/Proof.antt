@@ -1,7 +1,4 @@
 -- What is answered, and what the columns hold, is what `fill` answers and leaves.
-use mathlib.Core.Path.{ap}
-use borrow.Author.Needs.{needs}
-use Rattle.columns.specs.declared.Filled.{Filled}
 use Rattle.landfill.proofs.landfill_columns.Statement.{statement}
 use Rattle.landfill.proofs.landfill_columns.Tie as tie
 
@@ -11,7 +8,7 @@ done c = c .before .before .before .before .before .before .before .before .befo
 pub landfill-columns-spec : {M : Type 1} → statement M
 landfill-columns-spec =
     tie.close
-    (tie.spec (λ c κs. search needs)
+    (tie.spec (λ c κs. tt)
     (λ c. done c .fill .kept .1 .0)
     (λ c. done c .fill .kept .1 .1 .0)
     (λ c. done c .fill .kept .1 .1 .1 .0)
@@ -21,4 +18,4 @@ landfill-columns-spec =
     (λ c. done c .fill .kept .1 .1 .1 .1 .1 .1 .1 .0)
     (λ c. done c .fill .kept .1 .1 .1 .1 .1 .1 .1 .1 .0)
     (λ c. done c .fill .kept .1 .1 .1 .1 .1 .1 .1 .1 .1 .0)
-    (λ c. let is = done c .fill .ensures in (ap (λ (x : Filled). x .refusal) (is .0), (is .1, ap (λ (x : Filled). x .stocks) (is .0)))))
+    (λ c. let is = done c .fill .ensures in (λ i. is .0 i .refusal, (is .1, λ i. is .0 i .stocks))))
