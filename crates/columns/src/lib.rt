@@ -4,15 +4,10 @@ ghost use mathlib.Core.Bool.{false, _||_};
 ghost use mathlib.Core.Path.{_≡_};
 ghost use lib.Dec.{ltb};
 ghost use Rattle.numbers.specs.Eight.{eight};
-ghost use Rattle.columns.specs.Columns.{nine, columnsOf, filledOf};
+ghost use Rattle.by_type.specs.Columns.{nine, columnsOf, filledOf};
+use by_type::Filled;
 use releases::add_across;
 use releases::fill_four;
-
-// The refusal, 0 if none, and the carbon left of the eight types after the last record, in mg.
-pub struct Filled {
-    pub refusal: u8,
-    pub stocks: [u64; 8],
-}
 
 // Answers a refusal, with no stocks.
 fn refused(refusal: u8) -> Filled

@@ -14,7 +14,7 @@ ghost use Rattle.samples.specs.Samples.{sortedOf};
 ghost use Rattle.uncertainty.specs.Uncertainty.{entering, byPercentages, byCodes};
 ghost use Rattle.order.specs.Repair.{repairedOf, outLeft, reportLeft};
 ghost use Rattle.tunisia.specs.Reduction.{reductionOf};
-ghost use Rattle.columns.specs.Columns.{nine, columnsOf, filledOf};
+ghost use Rattle.by_type.specs.Columns.{nine, columnsOf, filledOf};
 ghost use Rattle.lines.specs.Listing.{listedOf, textOf};
 ghost use Rattle.calls.specs.Calls.{takeHere, takeImage, takeOut, takeAnswer, runHere, runImage};
 ghost use Rattle.landfill.specs.Entries.{cellOf};

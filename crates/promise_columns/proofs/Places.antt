@@ -9,7 +9,7 @@ use lib.Seq.{drop-at}
 use Rattle.numbers.specs.Lists.{Each}
 use Rattle.numbers.proofs.Lists.{each-of-map}
 use Rattle.run.specs.History.{Turn}
-use Rattle.columns.specs.Columns.{columnEntry, columnAfter, columnsAfter}
+use Rattle.by_type.specs.Columns.{columnEntry, columnAfter, columnsAfter}
 
 -- What is said of each thing for each of eight places.
 pub each-place : {A : Type 0} (P : ℕ → ℕ → A → Type 0) (i : ℕ) (xs : List A) → ((t : ℕ) → t < 8 → Each (P t) i xs)

@@ -17,12 +17,12 @@ use Rattle.figure.specs.Figure.{figureOf}
 use Rattle.ledger.specs.Step.{fresh, stockAt}
 use Rattle.run.specs.History.{recordsOf, wholeRun}
 use Rattle.run.proofs.History.{no-records, stopped, run-ends}
-use Rattle.releases.specs.Alone.{HasPlaces}
-use Rattle.releases.proofs.Alone.{releaseIn, figureIn, alone-is-ledgers}
+use Rattle.by_type.specs.Alone.{HasPlaces}
+use Rattle.by_type.proofs.Alone.{releaseIn, figureIn, alone-is-ledgers}
 use Rattle.ledger.proofs.Accepted.{fresh-stock}
-use Rattle.columns.specs.Columns.{columnEntry, columnAfter, columnsAfter, anyShort, columnsRefusal, columnsOf, filledOf}
-use Rattle.columns.specs.declared.Filled.{Filled}
-use Rattle.columns.proofs.Ledgers.{column-of-type, have-places, refused-first, refused-short, filled-well}
+use Rattle.by_type.specs.Columns.{columnEntry, columnAfter, columnsAfter, anyShort, columnsRefusal, columnsOf, filledOf}
+use Rattle.by_type.specs.declared.Filled.{Filled}
+use Rattle.by_type.proofs.Ledgers.{column-of-type, have-places, refused-first, refused-short, filled-well}
 use Rattle.promise_columns.specs.Sheets.{Lent, Sheets, sheets, nothingFilled, history, endLedger, Long}
 use Rattle.promise_columns.specs.Promise.{ColumnsPromise}
 use Rattle.promise_columns.proofs.Histories.{none-then, none-if, accepted-all, ledger-end, run-most-17, FromReleases, history-added}

@@ -6,7 +6,7 @@ use Prim.Native.Nat.{ℕ, _<_}
 use lib.ListN.{getD}
 use Rattle.ledger.specs.Step.{stockAt}
 use Rattle.run.specs.History.{recordsOf, wholeRun}
-use Rattle.releases.specs.Alone.{releasesAlone, stockAlone}
+use Rattle.by_type.specs.Alone.{releasesAlone, stockAlone}
 use Rattle.promise_columns.specs.Sheets.{Lent, sheets, nothingFilled, history, endLedger, NoneRefused, Long, SameAsLedger}
 
 pub record ColumnsPromise : Type 0 where

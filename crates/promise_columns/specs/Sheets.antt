@@ -11,7 +11,7 @@ use Rattle.figure.specs.Figure.{figureOf}
 use Rattle.ledger.specs.Step.{fresh, stockAt}
 use Rattle.ledger.specs.declared.book.Ledger.{Ledger}
 use Rattle.run.specs.History.{Turn, turns, ledgerAfter, recordsOf, inTurn}
-use Rattle.columns.specs.Columns.{columnsOf, filledOf}
+use Rattle.by_type.specs.Columns.{columnsOf, filledOf}
 
 -- What a call is handed: a file, the columns of types 1 to 8 as they are, and the ninth.
 pub record Lent : Type 0 where

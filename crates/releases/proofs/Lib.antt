@@ -1,4 +1,3 @@
-pub mod Alone
 pub mod Midway
 pub mod MidColumn
 pub mod MidFigures

@@ -15,8 +15,8 @@ use Rattle.ledger.specs.declared.book.Ledger.{Ledger}
 use Rattle.ledger.proofs.Accepted.{accepted-meets, fresh-stock, held-most, new-small}
 use Rattle.run.specs.History.{recordsOf, wholeRun}
 use Rattle.run.proofs.History.{no-records}
-use Rattle.releases.specs.Alone.{leftAlone, releasesAlone, stockAlone}
-use Rattle.releases.proofs.Alone.{left-alone}
+use Rattle.by_type.specs.Alone.{leftAlone, releasesAlone, stockAlone}
+use Rattle.by_type.proofs.Alone.{left-alone}
 use Rattle.releases.proofs.Midway.{Midway, midway-starts, next-record, records-are, next-taken, midway-on}
 
 pub record MidColumn (file column₀ : List ℕ) (t entry : ℕ) (column : List ℕ) (stock i : ℕ) : Type 0 where

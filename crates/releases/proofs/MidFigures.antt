@@ -15,8 +15,8 @@ use Rattle.ledger.specs.Step.{fresh}
 use Rattle.ledger.proofs.Accepted.{accepted-meets, fresh-stock}
 use Rattle.run.specs.History.{recordsOf, wholeRun}
 use Rattle.run.proofs.History.{no-records, records-join}
-use Rattle.releases.specs.Across.{HoldsReleases, HoldsAt, acrossAt, figuresAcross}
-use Rattle.releases.proofs.Alone.{releases-length, releases-small}
+use Rattle.by_type.specs.Across.{HoldsReleases, HoldsAt, acrossAt, figuresAcross}
+use Rattle.by_type.proofs.Alone.{releases-length, releases-small}
 use Rattle.releases.proofs.Midway.{Midway, midway-starts, next-record, records-are, next-taken, midway-on}
 
 -- A column that holds its releases has each place of them, and none is large.

@@ -6,7 +6,7 @@ ghost use lib.ListN.{length, drop};
 ghost use Rattle.numbers.specs.Lists.{Each};
 ghost use Rattle.record.specs.Fields.{recordBytes};
 ghost use Rattle.run.specs.History.{recordsOf, wholeRun};
-ghost use Rattle.releases.specs.Across.{HoldsReleases, HoldsAt, acrossAt, figuresAcross};
+ghost use Rattle.by_type.specs.Across.{HoldsReleases, HoldsAt, acrossAt, figuresAcross};
 use record::Factors;
 
 // Answers the sum of the eight columns at a place, in mg.

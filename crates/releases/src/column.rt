@@ -9,7 +9,7 @@ ghost use Rattle.numbers.specs.Lists.{Each};
 ghost use Rattle.record.specs.Fields.{recordBytes, kindOf, climateOf, depositOf};
 ghost use Rattle.carbon.specs.Carbon.{entryAt};
 ghost use Rattle.run.specs.History.{recordsOf, wholeRun};
-ghost use Rattle.releases.specs.Alone.{releasesAlone, stockAlone, HasPlaces, filledFrom, fourStocks};
+ghost use Rattle.by_type.specs.Alone.{releasesAlone, stockAlone, HasPlaces, filledFrom, fourStocks};
 
 // Answers the carbon that a record brings of the type at place t, in mg. Each place is written out, so that the compiler knows the type's
 // carbon content.

@@ -10,9 +10,9 @@ use Rattle.numbers.proofs.Lists.{each-at}
 use Rattle.record.specs.Fields.{recordBytes}
 use Rattle.run.specs.History.{wholeRun, outcomeOf}
 use Rattle.run.specs.declared.Outcome.{Outcome}
-use Rattle.releases.specs.Alone.{HasPlaces}
-use Rattle.columns.specs.Columns.{nine, anyShort}
-use Rattle.columns.proofs.Ledgers.{file-whole, stocks-are, halves-hold, nine-are, figures-is, have-places, refused-first, refused-short, filled-well}
+use Rattle.by_type.specs.Alone.{HasPlaces}
+use Rattle.by_type.specs.Columns.{nine, anyShort}
+use Rattle.by_type.proofs.Ledgers.{file-whole, stocks-are, halves-hold, nine-are, figures-is, have-places, refused-first, refused-short, filled-well}
 use Rattle.columns.proofs.fill.Statement.{statement}
 use Rattle.columns.proofs.fill.Tie as tie
 

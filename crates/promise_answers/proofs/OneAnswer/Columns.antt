@@ -1,6 +1,6 @@
 -- The public function of `columns`: the answer, and all nine columns.
 use denote.Ref.{now}
-use Rattle.columns.specs.Columns.{nine}
+use Rattle.by_type.specs.Columns.{nine}
 use Rattle.columns.proofs.fill.Reads as fill
 use Rattle.promise_answers.proofs.OneAnswer.{Settled, by-equation, _&_, both}
 

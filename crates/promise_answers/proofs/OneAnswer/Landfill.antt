@@ -13,7 +13,7 @@ use Rattle.landfill.proofs.landfill_repair.Reads as repair
 use Rattle.landfill.proofs.landfill_tunisia.Reads as tunisia
 use Rattle.landfill.proofs.landfill_columns.Reads as columns
 use Rattle.landfill.proofs.landfill_point.Reads as point
-use Rattle.columns.specs.Columns.{nine}
+use Rattle.by_type.specs.Columns.{nine}
 use Rattle.landfill.proofs.landfill_listing.Reads as listing
 use Rattle.promise_answers.proofs.OneAnswer.{OneAnswer, Settled, by-equation, _&_, both}
 

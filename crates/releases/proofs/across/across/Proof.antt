@@ -1,6 +1,6 @@
 -- Each column has the place, and eight numbers that one type can bring in add up to less than 64 bits hold.
 use borrow.Author.Needs.{needs}
-use Rattle.releases.specs.Across.{acrossAt}
+use Rattle.by_type.specs.Across.{acrossAt}
 use Rattle.releases.proofs.across.across.Statement.{statement}
 use Rattle.releases.proofs.across.across.Tie as tie
 

@@ -10,7 +10,7 @@ use Rattle.numbers.proofs.Eight.{eight-at}
 use Rattle.record.specs.Fields.{recordBytes, kindOf, climateOf, depositOf}
 use Rattle.carbon.specs.Carbon.{entryAt}
 use Rattle.carbon.proofs.Laws.{entry-small}
-use Rattle.releases.specs.Alone.{leftAlone}
+use Rattle.by_type.specs.Alone.{leftAlone}
 use Rattle.releases.proofs.MidColumn.{MidColumn, column-starts, held-small, entry-is, column-on, column-ends}
 use Rattle.releases.proofs.column.fill_column.Statement.{statement}
 use Rattle.releases.proofs.column.fill_column.Tie as tie

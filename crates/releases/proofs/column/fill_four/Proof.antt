@@ -8,7 +8,7 @@ use denote.Ref.{now}
 use lib.Dec.{lit<}
 use lib.ListN.{length, getD}
 use Rattle.numbers.proofs.Lists.{each-at}
-use Rattle.releases.specs.Alone.{HasPlaces}
+use Rattle.by_type.specs.Alone.{HasPlaces}
 use Rattle.releases.proofs.column.fill_four.Statement.{statement}
 use Rattle.releases.proofs.column.fill_four.Tie as tie
 

@@ -9,7 +9,7 @@ use Rattle.numbers.specs.Eight.{eight}
 use Rattle.numbers.specs.Fault.{Fault, _when_, firstOf}
 use Rattle.ledger.specs.Step.{stockAt}
 use Rattle.run.specs.History.{Turn, wholeRun}
-use Rattle.columns.specs.declared.Filled.{Filled}
+use Rattle.by_type.specs.declared.Filled.{Filled}
 
 -- The columns of types 1 to 8, and the ninth.
 abbrev pub nine : {A : Type 0} → (wood paper food textiles garden inert domestic industrial figures : A) → List A

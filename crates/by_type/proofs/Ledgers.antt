@@ -18,10 +18,10 @@ use Rattle.ledger.specs.Step.{fresh, stockAt}
 use Rattle.run.specs.History.{recordsOf, wholeRun}
 use Rattle.ledger.proofs.Accepted.{fresh-stock}
 use Rattle.run.proofs.History.{Counts, records-join, run-counts, run-whole}
-use Rattle.columns.specs.Columns.{nine, columnEntry, columnAfter, columnsAfter, anyShort, columnFaults, columnsOf, filledOf}
-use Rattle.releases.specs.Alone.{HasPlaces, releasesAlone, stockAlone, filledFrom, fourStocks}
-use Rattle.releases.specs.Across.{HoldsReleases, figuresAcross}
-use Rattle.releases.proofs.Alone.{releaseIn, figureIn, IsLedgers, alone-is-ledgers, releases-length, HoldFrom, figures-are-ledgers}
+use Rattle.by_type.specs.Columns.{nine, columnEntry, columnAfter, columnsAfter, anyShort, columnFaults, columnsOf, filledOf}
+use Rattle.by_type.specs.Alone.{HasPlaces, releasesAlone, stockAlone, filledFrom, fourStocks}
+use Rattle.by_type.specs.Across.{HoldsReleases, figuresAcross}
+use Rattle.by_type.proofs.Alone.{releaseIn, figureIn, IsLedgers, alone-is-ledgers, releases-length, HoldFrom, figures-are-ledgers}
 
 -- What the first eight columns have of an answer is the release of their type.
 pub column-of-type : (t : ℕ) → t < 8 → columnEntry t ≡ releaseIn t

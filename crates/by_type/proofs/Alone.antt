@@ -16,8 +16,8 @@ use Rattle.ledger.proofs.Step.{stock-after, release-answered}
 use Rattle.ledger.proofs.Accepted.{accepted-meets, new-small}
 use Rattle.run.specs.History.{Turn, runOf}
 use Rattle.run.proofs.History.{run-goes-on, run-takes, run-ends, acceptedTurn}
-use Rattle.releases.specs.Alone.{leftAlone, releasesAlone, stockAlone}
-use Rattle.releases.specs.Across.{acrossAt, figuresAcross}
+use Rattle.by_type.specs.Alone.{leftAlone, releasesAlone, stockAlone}
+use Rattle.by_type.specs.Across.{acrossAt, figuresAcross}
 
 -- One record: what is left is the ledger's new stock, what is gone its release.
 module _ (t : ℕ) (place : t < 8) (l : Ledger) (bytes : List ℕ) where

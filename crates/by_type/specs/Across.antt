@@ -8,7 +8,7 @@ use Rattle.record.specs.Fields.{factorsOf}
 use Rattle.carbon.specs.Carbon.{mostBrought}
 use Rattle.figure.specs.Figure.{figureOf}
 use Rattle.run.specs.History.{recordsOf}
-use Rattle.releases.specs.Alone.{releasesAlone}
+use Rattle.by_type.specs.Alone.{releasesAlone}
 
 -- The first n places of a column are the releases of the type at place t, over the records of a file.
 abbrev pub HoldsReleases : (file : List ℕ) (n : ℕ) → (t : ℕ) → List ℕ → Type 0
