@@ -1,7 +1,7 @@
--- How large things can be: a ceiling, an entry, and a sum.
-use mathlib.Core.Path.{_≡_}
-use Prim.Native.Nat.{ℕ, _+_, _*_, _%_, _^_, _≤_, _<_}
-use native.Mathlib.Nat.{mul-le-mul, mul-le-mul-left, mod-eq-of-lt}
+-- How large things can be: a ceiling, an entry, what is left, and a sum; and that more carbon leaves and releases no less.
+use mathlib.Core.Path.{_≡_, ap}
+use Prim.Native.Nat.{ℕ, _+_, _-_, _*_, _%_, _^_, _≤_, _<_}
+use native.Mathlib.Nat.{mul-le-mul, mul-le-mul-left, mul-le-mul-right, mod-eq-of-lt}
 use native.Mathlib.Omega.{arith}
 use Rattle.numbers.specs.Eight.{sumOf}
 use Rattle.numbers.proofs.Eight.{sum-most}
@@ -29,6 +29,18 @@ left-most H D h = omega (arith, mul-le-mul-left H h)
 pub left-less : (H D : ℕ) → D < 10 ^ 9 → 0 < H → leftOf H D < H
 unfolding leftOf
 left-less H D h some = omega (arith, mul-le-mul-left H h)
+
+-- Where more is held, no less is left, and no less released: what is held more is more by at least what is left more.
+pub left-grows : (H H′ D : ℕ) → H ≤ H′ → leftOf H D ≤ leftOf H′ D
+unfolding leftOf
+left-grows H H′ D h = omega (arith, mul-le-mul-right D h)
+
+pub release-grows : (H H′ D : ℕ) → D < 10 ^ 9 → H ≤ H′ → H - leftOf H D ≤ H′ - leftOf H′ D
+unfolding leftOf
+release-grows H H′ D small h = by (H′ - H) (omega arith)
+  where
+    by : (more : ℕ) → H′ ≡ H + more → H - leftOf H D ≤ H′ - leftOf H′ D
+    by more e = omega (arith, ap (λ (x : ℕ). x * D) e, mul-le-mul-left more small)
 
 -- A sum of eight small numbers is in 64 bits what it is.
 pub sum-fits : (f : ℕ → ℕ) → ((t : ℕ) → t < 8 → f t ≤ mostBrought) → sumOf f 8 % 2 ^ 64 ≡ sumOf f 8

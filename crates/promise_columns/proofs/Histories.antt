@@ -17,29 +17,9 @@ use Rattle.ledger.specs.Refusal.{sound, refusalOf}
 use Rattle.ledger.specs.Take.{acceptedOf, takeOf}
 use Rattle.ledger.specs.declared.book.Ledger.{Ledger}
 use Rattle.ledger.proofs.Take.{taken, take-refusal}
-use Rattle.run.specs.History.{Offer, Turn, turnOf, turns, ledgerAfter, leading, ending, recordsOf, inTurn, wholeRun, runOf}
+use Rattle.run.specs.History.{Offer, Turn, turnOf, turns, ledgerAfter, ending, recordsOf, inTurn, wholeRun, runOf}
+use Rattle.run.proofs.History.{NotRefused, none-refused, none-ending}
 use Rattle.promise_columns.specs.Sheets.{history, NoneRefused}
-
--- What every turn of some turns is.
-abbrev Accepted : ℕ → Turn → Type 0
-Accepted i turn = turn .answer .refusal ≡ 0
-
-none-refused : (i : ℕ) (all : List Turn) → ending all ≡ 0 → Each Accepted i all × (leading all ≡ all)
-unfolding ending leading
-none-refused i [] e = (tt, refl)
-none-refused i (turn ∷ rest) e =
-    elim (ℕ-discrete (turn .answer .refusal) 0) [
-      | yes z ↦
-          let test = eq-eqb (turn .answer .refusal) 0 z in
-          let on = none-refused (i + 1) rest (simp test at e) in
-          ((z, on .0), simp test (ap (λ (ts : List Turn). turn ∷ ts) (on .1)))
-      | no z ↦ absurd (z (simp (ne-eqb (turn .answer .refusal) 0 z) at e))
-    ]
-
-none-ending : (i : ℕ) (all : List Turn) → Each Accepted i all → ending all ≡ 0
-unfolding ending
-none-ending i [] e = refl
-none-ending i (turn ∷ rest) e = simp (eq-eqb (turn .answer .refusal) 0 (e .0)) (none-ending (i + 1) rest (e .1))
 
 module _ (file : List ℕ) where
   pub none-then : wholeRun file .refusal ≡ 0 → NoneRefused file
@@ -85,7 +65,7 @@ figure-added : (l : Ledger) (bytes : List ℕ) → acceptedOf l bytes .figure �
 unfolding acceptedOf x0Of
 figure-added l bytes = refl
 
-figures-added : (i : ℕ) (l : Ledger) (offers : List Offer) → Each Accepted i (turns l offers) → Each FromReleases i (turns l offers)
+figures-added : (i : ℕ) (l : Ledger) (offers : List Offer) → Each NotRefused i (turns l offers) → Each FromReleases i (turns l offers)
 unfolding turns
 figures-added i l [] e = tt
 figures-added i l (offer ∷ rest) e =

@@ -15,12 +15,13 @@ use Rattle.numbers.proofs.Eight.{both-true, three-true, every-at, every-same}
 use Rattle.numbers.proofs.Fault.{parted}
 use Rattle.waste.specs.Waste.{carbonOf, mostCarbonOf}
 use Rattle.waste.proofs.Laws.{carbon-most}
-use Rattle.record.specs.Fields.{periodOf, factorsOf, dryOf, zerosOf, massOf, depositOf}
-use Rattle.record.specs.Ranges.{coded, dryInRange, light}
+use Rattle.record.specs.Fields.{dryOf, zerosOf, massOf, depositOf}
+use Rattle.record.specs.Ranges.{dryInRange, light}
+use Rattle.record.proofs.Front.{SameFront, same-period, same-codes}
 use Rattle.carbon.specs.Carbon.{ceilingOf, withinOf}
-use Rattle.year_factors.specs.YearFactors.{shares, soundYear}
-use Rattle.year_factors.specs.declared.YearFactors.{YearFactors}
-use Rattle.refusal.specs.Refusal.{continues, faultsOf}
+use Rattle.year_factors.specs.YearFactors.{soundYear}
+use Rattle.refusal.specs.Refusal.{faultsOf}
+use Rattle.refusal.proofs.Laws.{continues-alike, faults-alike}
 use Rattle.ledger.specs.Step.{broughtAt, stockAt, releasedAt}
 use Rattle.ledger.specs.Refusal.{sound, allZero, inCode, inOrder, withinAt, refusalOf, NoneAhead}
 use Rattle.ledger.specs.Take.{takeOf}
@@ -82,7 +83,7 @@ over-100 l bytes room past wet = by (dryInRange bytes) refl
 
 -- what the other bytes say is the same
 module _ (one other : List ℕ) (alike : AlikeButDry one other) where
-  byte : (i : ℕ) → i < 12 → getD one i 0 ≡ getD other i 0
+  byte : SameFront one other
   byte i h = alike .same-byte i (λ e. omega (arith, h, e)) (λ e. omega (arith, h, e))
 
   later : (i : ℕ) → 13 < i → getD one i 0 ≡ getD other i 0
@@ -92,24 +93,9 @@ module _ (one other : List ℕ) (alike : AlikeButDry one other) where
   unfolding massOf
   masses t = rw (later (16 + 4 * t) (omega arith), later (16 + 4 * t + 1) (omega arith), later (16 + 4 * t + 1 + 1) (omega arith), later (16 + 4 * t + 1 + 1 + 1) (omega arith))
 
-  period : periodOf one ≡ periodOf other
-  period = rw (byte 0 (lit< tt), byte 1 (lit< tt))
-
-  year : (n : ℕ) (kept : YearFactors) → shares n kept one ≡ shares n kept other
-  unfolding shares
-  year n kept = rw (byte 2 (lit< tt), byte 4 (lit< tt), byte 8 (lit< tt), byte 10 (lit< tt), byte 11 (lit< tt))
-
-  factors : factorsOf one ≡ factorsOf other
-  unfolding factorsOf
-  factors = rw (byte 4 (lit< tt), byte 5 (lit< tt), byte 6 (lit< tt), byte 7 (lit< tt), byte 8 (lit< tt), byte 9 (lit< tt), byte 10 (lit< tt), byte 11 (lit< tt))
-
-  codes : coded one ≡ coded other
-  unfolding coded zerosOf
-  codes = rw (byte 2 (lit< tt), byte 3 (lit< tt), byte 8 (lit< tt), later 14 (lit< tt), later 15 (lit< tt))
-
-  series : (kind climate : ℕ) → continues kind climate one ≡ continues kind climate other
-  unfolding continues
-  series kind climate = rw (byte 2 (lit< tt), byte 3 (lit< tt))
+  zeros : zerosOf one ≡ zerosOf other
+  unfolding zerosOf
+  zeros = rw (later 14 (lit< tt), later 15 (lit< tt))
 
   lights : everyOf (light one) 8 ≡ everyOf (light other) 8
   unfolding light
@@ -117,23 +103,16 @@ module _ (one other : List ℕ) (alike : AlikeButDry one other) where
 
   pub dry-unseen : (l : Ledger) (room : ℕ) → NoneAhead 8 l one room → NoneAhead 8 l other room
   unfolding faultsOf
-  dry-unseen l room past = rw (alike .same-length, codes, period, series (l .kind) (l .climate)) at past
+  dry-unseen l room past =
+      rw (alike .same-length, same-codes one other byte zeros, same-period one other byte, continues-alike one other byte (l .kind) (l .climate)) at past
 
   pub dry-free : (l : Ledger) (room : ℕ) → Dry one → Dry other → takeOf l one room .refusal ≡ takeOf l other room .refusal
-  unfolding refusalOf faultsOf
+  unfolding refusalOf
   dry-free l room d d′ =
       rw (
         take-refusal l one room,
         take-refusal l other room,
-        alike .same-length,
-        codes,
-        period,
-        series (l .kind) (l .climate),
-        factors,
-        when-dry one d,
-        when-dry other d′,
-        year (l .n) (l .year),
-        lights,
+        faults-alike one other byte (alike .same-length) zeros (rw (when-dry one d, when-dry other d′)) lights (sound l) (l .n) (l .kind) (l .climate) (l .year) room,
       )
 
 pub sound-by : (l : Ledger) → sound l ≡ soundBy highest l

@@ -1,4 +1,4 @@
--- Years are numbered from 1 on, so a stretch of one year has that year and no other.
+-- Years are numbered from 1 on, so a stretch has no year past its last, and one of one year has that year and no other.
 use mathlib.Core.Path.{_≡_, refl}
 use mathlib.Core.Bool.{and-false}
 use mathlib.Core.List.{List, [], _∷_}
@@ -20,11 +20,11 @@ use Rattle.promise_tunisia.proofs.Offered.{yearOffering, years-one-by-o
 use Rattle.promise_tunisia.proofs.Years.{years-length}
 use Rattle.promise_tunisia.proofs.Refusals.{answered}
 
-abbrev Numbered : (y : ℕ) → Year → Type 0
+abbrev pub Numbered : (y : ℕ) → Year → Type 0
 Numbered y year = year .number ≡ y
 
 -- the accepted years
-numbered : (o : Offering) → OneByOne o → Each Numbered 1 (yearsOf (o .accepted))
+pub numbered : (o : Offering) → OneByOne o → Each Numbered 1 (yearsOf (o .accepted))
 unfolding yearsOf yearsFrom countedYear
 numbered _ none-yet = tt
 numbered _ (one-more o bytes room r e) =
@@ -33,17 +33,17 @@ numbered _ (one-more o bytes room r e) =
     (each-more Numbered 1 (yearsFrom 0 (o .accepted)) (countedYear (lastX0 0 (o .accepted)) turn) (numbered o r)
     (omega (arith, n-counts o r, years-length 0 (o .accepted))))
 
--- no year is before the first of some
-none-before : (y i : ℕ) (years : List Year) → y < i → Each Numbered i years → stretchOf y y years ≡ []
+-- no year is past the last one
+pub none-past : (first last i : ℕ) (years : List Year) → last < i → Each Numbered i years → stretchOf first last years ≡ []
 unfolding stretchOf
-none-before y i [] before h = refl
-none-before y i (year ∷ rest) before h = simp (h .0, lt-leb i y before, and-false) (none-before y (i + 1) rest (omega arith) (h .1))
+none-past first last i [] past h = refl
+none-past first last i (year ∷ rest) past h = simp (h .0, lt-leb i last past, and-false) (none-past first last (i + 1) rest (omega arith) (h .1))
 
 one-each : (i : ℕ) (years : List Year) → Each Numbered i years → Each (λ y year. stretchOf y y years ≡ year ∷ []) i years
 unfolding stretchOf
 one-each i [] h = tt
 one-each i (year ∷ rest) h = (
-  simp (h .0, le-leb i i (omega arith), none-before i (i + 1) rest (omega arith) (h .1)),
+  simp (h .0, le-leb i i (omega arith), none-past i i (i + 1) rest (omega arith) (h .1)),
   each-map (λ y one. stretchOf y y rest ≡ one ∷ []) (λ y one. stretchOf y y (year ∷ rest) ≡ one ∷ []) (i + 1) rest
       (λ y one low high e. simp (h .0, lt-leb y i (omega arith)) e) (one-each (i + 1) rest (h .1)),
 )

@@ -20,9 +20,9 @@ use Rattle.promise_three.proofs.OneByOne.{OneByOne, none-yet, one-more, withOne
 use Rattle.promise_tunisia.specs.Reported.{yearLedger}
 
 -- A record that this mode accepts is accepted in a run with room.
-taken : (l : Ledger) (bytes : List ℕ) → refusalByYear l bytes ≡ 0 → refusalOf l bytes recordBytes ≡ 0
+pub taken-in-a-run : (l : Ledger) (bytes : List ℕ) → refusalByYear l bytes ≡ 0 → refusalOf l bytes recordBytes ≡ 0
 unfolding refusalByYear refusalOf faultsOf
-taken l bytes e =
+taken-in-a-run l bytes e =
     inserted-clear 6 23 (isMonthly (kindOf bytes)) (faultsOf (sound l) (l .n) (l .kind) (l .climate) (l .year) bytes recordBytes) refl e .0
 
 -- no record, no year
@@ -48,7 +48,7 @@ goes-by-year [] o r = rw (no-years (o .ledger)) (none-more o r)
 goes-by-year (bytes ∷ rest) o r =
     elim (ℕ-discrete (refusalByYear (o .ledger) bytes) 0) [
       | yes e ↦ rw (year-goes-on (o .ledger) bytes rest e .0)
-          (with-one o bytes (leading (turnsByYear (withOne o bytes .ledger) rest)) (goes-by-year rest (withOne o bytes) (one-more o bytes recordBytes r (taken (o .ledger) bytes e))))
+          (with-one o bytes (leading (turnsByYear (withOne o bytes .ledger) rest)) (goes-by-year rest (withOne o bytes) (one-more o bytes recordBytes r (taken-in-a-run (o .ledger) bytes e))))
       | no e ↦ rw (year-stops (o .ledger) bytes rest e .0) (none-more o r)
     ]
 

@@ -13,6 +13,7 @@ use Rattle.promise_order.proofs.Proved.{order-promise}
 use Rattle.promise_work.proofs.Proved.{work-promise}
 use Rattle.promise_tunisia.proofs.Proved.{tunisia-promise}
 use Rattle.promise_columns.proofs.Proved.{columns-promise}
+use Rattle.promise_more.proofs.Proved.{more-promise}
 
 pub promises : Promises
 promises =
@@ -30,4 +31,5 @@ promises =
       decay-work = work-promise;
       tunisian-reductions = tunisia-promise;
       columns-of-types = columns-promise;
+      more-waste = more-promise;
     }

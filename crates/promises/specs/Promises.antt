@@ -13,6 +13,7 @@ use Rattle.promise_order.specs.Promise.{OrderPromise}
 use Rattle.promise_work.specs.Promise.{WorkPromise}
 use Rattle.promise_tunisia.specs.Promise.{TunisiaPromise}
 use Rattle.promise_columns.specs.Promise.{ColumnsPromise}
+use Rattle.promise_more.specs.Promise.{MorePromise}
 
 pub record Promises : Type 0 where
   -- Demand 3, and request b of document 02: released carbon.
@@ -41,3 +42,5 @@ pub record Promises : Type 0 where
   pub tunisian-reductions : TunisiaPromise
   -- Document 02, request j: a column-by-column calculation.
   pub columns-of-types : ColumnsPromise
+  -- Document 02, request k: more waste never shows less gas.
+  pub more-waste : MorePromise

@@ -1,9 +1,9 @@
--- Laws of a record: what its ranges say of its factors, and how much a deposit can be.
+-- Laws of a record: what its ranges say of its factors, how much a deposit can be, and that it grows with the mass.
 use mathlib.Core.Path.{_≡_}
 use mathlib.Core.Bool.{true}
 use mathlib.Core.List.{List}
 use Prim.Native.Nat.{ℕ, _+_, _*_, _≤_, zero-le}
-use native.Mathlib.Nat.{mul-le-mul}
+use native.Mathlib.Nat.{mul-le-mul, mul-le-mul-right}
 use native.Mathlib.Omega.{arith}
 use borrow.Author.Tests.{leb-true}
 use lib.Dec.{eqb, leb}
@@ -56,6 +56,11 @@ deposit-within bytes t e f =
 
 pub deposit-most : (bytes : List ℕ) (t : ℕ) → light bytes t ≡ true → dryInRange bytes ≡ true → depositOf bytes t ≤ mostDeposit
 deposit-most bytes t e f = omega (arith, deposit-within bytes t e f, highest-most (t + 1))
+
+-- With the same dry matter, more mass brings no less.
+pub deposit-grows : (one other : List ℕ) (t : ℕ) → dryOf one (t + 1) ≡ dryOf other (t + 1) → massOf one t ≤ massOf other t → depositOf one t ≤ depositOf other t
+unfolding depositOf
+deposit-grows one other t dry h = rw dry (omega (arith, mul-le-mul-right (carbonOf (t + 1) (dryOf other (t + 1))) h))
 
 -- Inert waste brings no carbon, and so has none to release or to keep.
 pub inert-brings-none : (bytes : List ℕ) (t : ℕ) → inert t ≡ true → depositOf bytes t ≡ 0

@@ -1,4 +1,4 @@
--- Laws of a year and of the years of a stretch: how large its figures and bounds can be, and one year more at the end.
+-- Laws of a year and of the years of a stretch: how large its figures and bounds can be, with what they grow, and one year more at the end.
 use mathlib.Core.Path.{_≡_, refl, ap, _∙_}
 use mathlib.Core.Bool.{Bool, true, false, cond}
 use mathlib.Core.List.{List, [], _∷_, _++_}
@@ -13,6 +13,7 @@ use Rattle.record.specs.declared.factors.Factors.{Factors}
 use Rattle.record.proofs.Laws.{ranged}
 use Rattle.figure.specs.Figure.{x1Of, x2Of, gramsOf, figureOf}
 use Rattle.figure.proofs.Laws.{figure-most, bound-half}
+use Rattle.figure.proofs.Grows.{figure-grows, bound-grows}
 use Rattle.reductions.specs.Year.{Year, inClass, referenceOf, projectOf, projectBound, referenceBound, boundsOf, stretchOf, sumsOf, withYear}
 
 pub stretch-more : (first last : ℕ) (years : List Year) (year : Year)
@@ -59,6 +60,20 @@ module _ (year : Year) (e : inRange (year .factors) ≡ true) where
   pub bounds-most : boundsOf year ≤ year .B + 7
   unfolding boundsOf referenceBound projectBound
   bounds-most = omega (arith, bound-half (year .factors) (year .B) e)
+
+-- With the same factors, figures do not fall where the release grows, nor bounds where B grows.
+module _ (year year′ : Year) (same : year .factors ≡ year′ .factors) where
+  pub reference-grows : year .release ≤ year′ .release → referenceOf year ≤ referenceOf year′
+  unfolding referenceOf
+  reference-grows h = rw same (omega (arith, figure-grows (inClass 1 (year′ .factors)) (year .release) (year′ .release) h))
+
+  pub project-grows : year .release ≤ year′ .release → projectOf year ≤ projectOf year′
+  unfolding projectOf
+  project-grows h = rw same (figure-grows (inClass 2 (year′ .factors)) (year .release) (year′ .release) h)
+
+  pub bounds-grow : year .B ≤ year′ .B → (projectBound year ≤ projectBound year′) × (referenceBound year ≤ referenceBound year′)
+  unfolding referenceBound projectBound
+  bounds-grow h = let grown = bound-grows (year′ .factors) (year .B) (year′ .B) h in rw same (grown, omega (arith, grown))
 
 -- Half the correction gives half the figure, but for 2 g: on u, the product of what both chains have before the site class, at a GWP of W.
 module _ (u W : ℕ) where

@@ -1,4 +1,4 @@
--- What is remembered stays sound, and after an accepted monthly record it is that record's own.
+-- What is remembered stays sound, and after an accepted monthly record it is that record's own; of a record it hangs on bytes 0 to 11 alone.
 use mathlib.Core.Path.{_≡_, refl, sym, ap, _∙_}
 use mathlib.Core.Bool.{Bool, true, false, cond, _&&_, and-false, true≢false}
 use mathlib.Core.List.{List}
@@ -6,11 +6,12 @@ use Prim.Native.Nat.{ℕ, _+_, _%_, _≤_}
 use native.Mathlib.Decide.{ℕ-discrete}
 use native.Mathlib.Omega.{arith}
 use borrow.Author.Tests.{eq-eqb, ne-eqb, eqb-true, eqb-false, leb-true, lt-ltb, le-ltb}
-use lib.Dec.{eqb, ltb}
+use lib.Dec.{eqb, ltb, lit<}
 use Rattle.numbers.proofs.Eight.{three-true, all-true}
 use Rattle.waste.specs.Waste.{isClass}
 use Rattle.record.specs.Fields.{kindOf, factorOf, capturedOf, classOf, factorsOf}
 use Rattle.record.specs.Ranges.{isFactor, isShare, ranges, inRange}
+use Rattle.record.proofs.Front.{SameFront}
 use Rattle.waste.specs.Kind.{isMonthly}
 use Rattle.year_factors.specs.YearFactors.{yearOf, noYear, months, beginsYear, repeats, shares, remembered, yearInRange, nothingKept, soundYear}
 use Rattle.year_factors.specs.declared.YearFactors.{YearFactors}
@@ -108,3 +109,13 @@ module _ (n : ℕ) (year : YearFactors) (bytes : List ℕ) where
       by : (b : Bool) → repeats year bytes ≡ b → repeats year bytes ≡ false
       by true e = absurd (unlike (repeated e))
       by false e = e
+
+-- Two records that have the same bytes 0 to 11 share a year alike, and are remembered alike.
+module _ (one other : List ℕ) (byte : SameFront one other) (n : ℕ) (year : YearFactors) where
+  pub shares-alike : shares n year one ≡ shares n year other
+  unfolding shares
+  shares-alike = rw (byte 2 (lit< tt), byte 4 (lit< tt), byte 8 (lit< tt), byte 10 (lit< tt), byte 11 (lit< tt))
+
+  pub remembered-alike : remembered n year one ≡ remembered n year other
+  unfolding remembered yearOf
+  remembered-alike = rw (byte 2 (lit< tt), byte 4 (lit< tt), byte 8 (lit< tt), byte 10 (lit< tt), byte 11 (lit< tt))

@@ -1,0 +1,4 @@
+pub mod More
+pub mod Years
+pub mod Example
+pub mod Promise
