@@ -5,7 +5,7 @@ It holds the refusal numbers to those of docs/METHOD.md, README.md and include/l
 
 Of document 02 it holds masses from samples, the carbon released so far, months that share the year's factors, the
 correction factor from uncertainties, sludge with a measured dry matter, the shuffled files put right, the decay work
-of a run, the Tunisian reference method, and the calculation by columns.
+of a run, the Tunisian reference method, the calculation by columns, and that more waste never shows less gas.
 
 Prints ok and exits 0, or stops at the first check that fails.
 """
@@ -21,6 +21,7 @@ import cases
 import columns_checks
 import decay_tables
 import months_checks
+import more_checks
 import order_checks
 import reference
 import refusal_checks
@@ -384,6 +385,12 @@ def main():
     columns_checks.no_records()
     columns_checks.too_short()
     columns_checks.after_the_others()
+    more_checks.worked()
+    more_checks.dry_matter()
+    more_checks.every_kilogram()
+    more_checks.last_milligrams()
+    more_checks.every_size()
+    more_checks.full()
     tables()
     in_whole_numbers()
     unlikely()
@@ -417,6 +424,11 @@ def main():
     for kind, climate in KINDS_AND_CLIMATES:
         columns_checks.any_file(rng, kind, climate)
     columns_checks.short_cases(rng)
+    for kind, climate in KINDS_AND_CLIMATES * 3:
+        more_checks.at_random(rng, kind, climate)
+        more_checks.within_the_limit(rng, kind, climate)
+        more_checks.a_milligram(rng, kind, climate)
+    more_checks.either_way(rng)
     cases_page()
     uncertainty_checks.every_sum()
     order_checks.every_order(rng)

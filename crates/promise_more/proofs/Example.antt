@@ -3,6 +3,7 @@ use mathlib.Core.Path.{_≡_, refl, sym, ap, _∙_}
 use mathlib.Core.Bool.{true}
 use mathlib.Core.List.{List, [], _∷_}
 use Prim.Native.Nat.{ℕ, _≤_, _<_}
+use native.Mathlib.Omega.{arith}
 use borrow.Author.Tests.{leb-true}
 use lib.Dec.{leb}
 use lib.ListN.{length, getD, take}
@@ -35,10 +36,10 @@ by-tests : (one other : List ℕ) → length one ≡ length other → take 16 on
 by-tests one other size same tests =
     record {
       equal = record {
-        same-length = size;
-        same-byte = λ i h. sym (getD-take 16 one i 0 h) ∙ ap (λ (bytes : List ℕ). getD bytes i 0) same ∙ getD-take 16 other i 0 h;
+        same-length = omega (arith, size);
+        same-byte = λ i h. sym (getD-take 16 one i 0 (omega arith)) ∙ ap (λ (bytes : List ℕ). getD bytes i 0) same ∙ getD-take 16 other i 0 (omega arith);
       };
-      more = λ t place. leb-true _ _ (every-at (λ t. leb (Fields.massOf one t) (Fields.massOf other t)) 8 t place tests);
+      more = λ t place. leb-true _ _ (every-at (λ t. leb (Fields.massOf one t) (Fields.massOf other t)) 8 t (omega arith) tests);
     }
 
 pub more-food : InFiles MoreWaste (foodFile 0) (foodFile 26) × InFiles MoreWaste (foodFile 26) (foodFile 27)
