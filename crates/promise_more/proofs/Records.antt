@@ -7,10 +7,9 @@ use native.Mathlib.Omega.{arith}
 use borrow.Author.Tests.{le-leb}
 use lib.Dec.{lit<}
 use Rattle.numbers.specs.Eight.{everyOf}
-use Rattle.numbers.specs.Fault.{Fault, firstOf}
+use Rattle.numbers.specs.Fault.{firstOf}
 use Rattle.numbers.proofs.Eight.{every-each}
-use Rattle.waste.specs.Kind.{isMonthly}
-use Rattle.record.specs.Fields.{recordBytes, kindOf, dryOf, zerosOf}
+use Rattle.record.specs.Fields.{recordBytes, dryOf, zerosOf}
 use Rattle.record.specs.Ranges.{dryInRange, light}
 use Rattle.record.proofs.Front.{SameFront}
 use Rattle.year_factors.proofs.Laws.{remembered-alike}
@@ -28,10 +27,6 @@ module _ (one other : List ℕ) (e : EqualButMasses one other) where
   pub front : SameFront one other
   front i h = e .same-byte i (omega arith)
 
-  zeros : zerosOf one ≡ zerosOf other
-  unfolding zerosOf
-  zeros = rw (e .same-byte 14 (lit< tt), e .same-byte 15 (lit< tt))
-
   pub dry : (waste : ℕ) → dryOf one waste ≡ dryOf other waste
   unfolding dryOf
   dry waste = rw (e .same-byte 12 (lit< tt), e .same-byte 13 (lit< tt))
@@ -39,6 +34,10 @@ module _ (one other : List ℕ) (e : EqualButMasses one other) where
   dry-range : dryInRange one ≡ dryInRange other
   unfolding dryInRange
   dry-range = rw (dry 7, dry 8)
+
+  zeros : zerosOf one ≡ zerosOf other
+  unfolding zerosOf
+  zeros = rw (e .same-byte 14 (lit< tt), e .same-byte 15 (lit< tt))
 
 within-light : (bytes : List ℕ) → WithinLimit bytes → everyOf (light bytes) 8 ≡ true
 unfolding light
@@ -66,25 +65,19 @@ module _ (l l′ : Ledger) (s : SamePlace l l′) (one other : List ℕ) (e : Eq
       }
 
   -- What the first ledger accepts of the one, the second accepts of the other.
-  module _ (room room′ : ℕ) (sound′ : sound l′ ≡ true) (within : WithinLimit other) (accepted : refusalOf l one room ≡ 0) where
-    abbrev faults : List Fault
-    faults = faultsOf (sound l) (l .n) (l .kind) (l .climate) (l .year) one room
-
-    same-faults : faultsOf (sound l′) (l′ .n) (l′ .kind) (l′ .climate) (l′ .year) other room ≡ faults
+  module _ (sound′ : sound l′ ≡ true) (within : WithinLimit other) (room : ℕ) (accepted : refusalOf l one room ≡ 0) where
+    same-faults : faultsOf (sound l′) (l′ .n) (l′ .kind) (l′ .climate) (l′ .year) other room ≡ faultsOf (sound l) (l .n) (l .kind) (l .climate) (l .year) one room
     same-faults =
         let lights = every-each (light one) 8 (accepted-meets l one room accepted .light-each) in
-        sym (faults-alike one other (front one other e) (e .same-length) zeros′ (dry-range one other e) (rw (lights, within-light other within)) (sound l′) (l′ .n) (l′ .kind) (l′ .climate) (l′ .year) room)
+        sym (faults-alike one other (front one other e) (e .same-length) (zeros one other e) (dry-range one other e) (rw (lights, within-light other within)) (sound l′) (l′ .n) (l′ .kind) (l′ .climate) (l′ .year) room)
         ∙ rw (sound′, was-sound l one room accepted, s .n, s .kind, s .climate, s .year)
-      where
-        zeros′ : zerosOf one ≡ zerosOf other
-        zeros′ = zeros one other e
 
-    pub accepts-too : recordBytes ≤ room′ → refusalOf l′ other room′ ≡ 0
+    pub accepts-too : (room′ : ℕ) → recordBytes ≤ room′ → refusalOf l′ other room′ ≡ 0
     unfolding refusalOf
-    accepts-too enough =
+    accepts-too room′ enough =
         room-alike l′ other room′ room enough (has-room l one room accepted) ∙ ap firstOf same-faults ∙ accepted
 
   pub accepts-by-year : sound l′ ≡ true → WithinLimit other → refusalByYear l one ≡ 0 → refusalByYear l′ other ≡ 0
   unfolding refusalByYear
   accepts-by-year sound′ within accepted =
-      rw (same-faults recordBytes recordBytes sound′ within (taken-in-a-run l one accepted), ← front one other e 2 (lit< tt)) accepted
+      rw (same-faults sound′ within recordBytes (taken-in-a-run l one accepted), ← front one other e 2 (lit< tt)) accepted

@@ -2,17 +2,16 @@
 use mathlib.Core.Path.{_≡_, sym, _∙_}
 use mathlib.Core.Bool.{true}
 use mathlib.Core.List.{List, [], _∷_}
-use Prim.Native.Nat.{ℕ, _+_, _≤_}
+use Prim.Native.Nat.{ℕ, _+_}
 use Rattle.numbers.specs.Lists.{Each}
-use Rattle.record.specs.Fields.{recordBytes}
 use Rattle.ledger.specs.Refusal.{sound, refusalOf}
 use Rattle.ledger.specs.Take.{acceptedOf, takeOf}
 use Rattle.ledger.specs.declared.book.Ledger.{Ledger}
 use Rattle.ledger.proofs.Accepted.{accepted-meets, accepted-sound}
 use Rattle.ledger.proofs.Take.{taken, take-refusal}
-use Rattle.run.specs.History.{Offer, Turn, turnOf, turns, recordsOf, inTurn}
+use Rattle.run.specs.History.{Offer, Turn, turnOf, turns, inTurn}
 use Rattle.run.proofs.History.{NotRefused}
-use Rattle.promise_more.specs.More.{EqualButMasses, MoreWaste, WithinLimit, Pairs, Offered, TurnNoLess}
+use Rattle.promise_more.specs.More.{EqualButMasses, MoreWaste, Pairs, Offered, LightOffer, TurnNoLess}
 use Rattle.promise_more.proofs.Records.{SamePlace, place-after, accepts-too}
 use Rattle.promise_more.proofs.Steps.{HoldsMore, more-after, no-less}
 
@@ -48,17 +47,14 @@ in-turn P [] (other ∷ second) room room′ p = absurd p
 in-turn P (one ∷ first) [] room room′ p = absurd p
 in-turn P (one ∷ first) (other ∷ second) room room′ p = (p .0, in-turn P first second _ _ (p .1))
 
-abbrev pub Fits : ℕ → Offer → Type 0
-Fits i offer = WithinLimit (offer .bytes) × (recordBytes ≤ offer .room)
-
 pub turns-accepted : (first second : List Offer) (i : ℕ) (l l′ : Ledger) → SamePlace l l′ → sound l′ ≡ true → Offered EqualButMasses first second
-    → Each NotRefused i (turns l first) → Each Fits i second → Each NotRefused i (turns l′ second)
+    → Each NotRefused i (turns l first) → Each (λ i offer. LightOffer offer) i second → Each NotRefused i (turns l′ second)
 unfolding turns acceptedOf
 turns-accepted [] [] i l l′ s good m e fits = tt
 turns-accepted [] (other ∷ second) i l l′ s good m e fits = absurd m
 turns-accepted (one ∷ first) [] i l l′ s good m e fits = absurd m
 turns-accepted (one ∷ first) (other ∷ second) i l l′ s good m e fits =
-    let ok = accepts-too l l′ s (one .bytes) (other .bytes) (m .0) (one .room) (other .room) good (fits .0 .0) (accepts l one (e .0)) (fits .0 .1) in
+    let ok = accepts-too l l′ s (one .bytes) (other .bytes) (m .0) good (fits .0 .0) (one .room) (accepts l one (e .0)) (other .room) (fits .0 .1) in
     let zero : turnOf l′ other .answer .refusal ≡ 0 = take-refusal l′ (other .bytes) (other .room) ∙ ok in
     let place : SamePlace (turnOf l one .answer .ledger) (turnOf l′ other .answer .ledger)
     = rw (answers l one (e .0), answers l′ other zero) (place-after l l′ s (one .bytes) (other .bytes) (m .0)) in

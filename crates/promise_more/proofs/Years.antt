@@ -11,7 +11,6 @@ use Rattle.numbers.specs.Fault.{between}
 use Rattle.numbers.specs.Lists.{added, Each}
 use Rattle.record.proofs.Front.{same-factors}
 use Rattle.record.specs.Fields.{recordBytes}
-use Rattle.figure.specs.Figure.{BOf}
 use Rattle.figure.proofs.Grows.{B-grows}
 use Rattle.ledger.specs.Step.{fresh, broughtAt}
 use Rattle.ledger.specs.Refusal.{sound}
@@ -20,7 +19,7 @@ use Rattle.ledger.specs.declared.book.Ledger.{Ledger}
 use Rattle.ledger.proofs.Accepted.{fresh-sound, accepted-meets, accepted-sound}
 use Rattle.run.specs.History.{leading, ending, recordsOf}
 use Rattle.run.proofs.History.{acceptedTurn}
-use Rattle.reductions.specs.Year.{Year, referenceOf, projectOf, referenceBound, projectBound, boundsOf, stretchOf}
+use Rattle.reductions.specs.Year.{Year, referenceOf, projectOf, boundsOf, stretchOf}
 use Rattle.reductions.proofs.Years.{reference-grows, project-grows, bounds-grow}
 use Rattle.tunisia.specs.Years.{refusalByYear, turnsByYear, acceptedYears, refusalAfter, countedYear, yearsFrom, yearsOf}
 use Rattle.tunisia.specs.Reduction.{answerOver, reductionOf}

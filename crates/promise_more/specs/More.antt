@@ -5,7 +5,7 @@ use mathlib.Core.List.{List, [], _∷_}
 use Prim.Native.Nat.{ℕ, _^_, _≤_, _<_}
 use lib.ListN.{length, getD}
 use Rattle.numbers.specs.Lists.{Each}
-use Rattle.record.specs.Fields.{massOf}
+use Rattle.record.specs.Fields.{recordBytes, massOf}
 use Rattle.ledger.specs.Step.{broughtAt, stockAt, releasedAt}
 use Rattle.ledger.specs.Take.{totalStock, totalBrought}
 use Rattle.ledger.specs.declared.answer.Answer.{Answer}
@@ -38,6 +38,10 @@ Offered P first second = Pairs (λ one other. P (one .bytes) (other .bytes)) fir
 
 abbrev pub InFiles : (List ℕ → List ℕ → Type 0) → (first second : List ℕ) → Type 0
 InFiles P first second = Pairs P (recordsOf first) (recordsOf second)
+
+-- An offer with no mass over the limit, and with room for its output record.
+abbrev pub LightOffer : Offer → Type 0
+LightOffer offer = WithinLimit (offer .bytes) × (recordBytes ≤ offer .room)
 
 -- 'all accepted'
 abbrev pub AllAccepted : List Turn → Type 0

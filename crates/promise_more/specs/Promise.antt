@@ -1,14 +1,13 @@
 -- Document 02, request k, 'More waste never shows less gas'. proofs/Proved.antt proves `MorePromise`.
 use mathlib.Core.Path.{_≡_}
 use mathlib.Core.List.{List, [], _∷_}
-use Prim.Native.Nat.{ℕ, _≤_}
+use Prim.Native.Nat.{ℕ}
 use Rattle.numbers.specs.Lists.{Each}
-use Rattle.record.specs.Fields.{recordBytes}
 use Rattle.ledger.specs.Step.{fresh}
 use Rattle.run.specs.History.{Offer, turns, recordsOf, runOf}
 use Rattle.tunisia.specs.Years.{acceptedYears, refusalAfter, yearsOf}
 use Rattle.promise_tunisia.specs.Reported.{StretchOfYears, reported}
-use Rattle.promise_more.specs.More.{EqualButMasses, MoreWaste, WithinLimit, Pairs, Offered, InFiles, AllAccepted, TurnNoLess}
+use Rattle.promise_more.specs.More.{EqualButMasses, MoreWaste, WithinLimit, Pairs, Offered, InFiles, LightOffer, AllAccepted, TurnNoLess}
 use Rattle.promise_more.specs.Years.{YearNoLess, StretchNoLess, SameYears}
 use Rattle.promise_more.specs.Example.{foodFile, figuresOf, secondYear, answeredWith}
 
@@ -24,7 +23,7 @@ pub record MorePromise : Type 0 where
       → Pairs TurnNoLess (runOf fresh (recordsOf first) room .accepted) (runOf fresh (recordsOf second) room′ .accepted)
   -- That the second is accepted need not be assumed where its masses are within the limit and its output has room; they may be less, too.
   pub still-accepted : (first second : List Offer) → Offered EqualButMasses first second → AllAccepted (turns fresh first)
-      → Each (λ i offer. WithinLimit (offer .bytes) × (recordBytes ≤ offer .room)) 1 second → AllAccepted (turns fresh second)
+      → Each (λ i offer. LightOffer offer) 1 second → AllAccepted (turns fresh second)
   -- '[..] and in the mode of i), for reference and project figures separately', with their bounds: year by year,
   pub more-by-year : (first second : List ℕ) → InFiles MoreWaste first second → refusalAfter first ≡ 0 → refusalAfter second ≡ 0
       → Pairs YearNoLess (yearsOf (acceptedYears first)) (yearsOf (acceptedYears second))
@@ -34,8 +33,8 @@ pub record MorePromise : Type 0 where
   -- and over any stretch that is answered for both files, whatever comes of the records after it.
   pub more-over-years : (first second : StretchOfYears) → SameYears first second → InFiles MoreWaste (first .file) (second .file)
       → reported first .refusal ≡ 0 → reported second .refusal ≡ 0 → StretchNoLess (reported first) (reported second)
-  -- Such files are there, and neither a run that accepts nothing nor one constant figure gives theirs: a kilogram more of food takes the first
-  -- figure from 3 g to 4 g.
+  -- There are such files, and a kilogram more of food shows: it takes the first figure from 3 g to 4 g. A run that accepts nothing does not meet
+  -- that, nor does a constant figure.
   pub more-food : InFiles MoreWaste (foodFile 0) (foodFile 26) × InFiles MoreWaste (foodFile 26) (foodFile 27)
   pub more-gas : (figuresOf (foodFile 26) ≡ 3 ∷ 2 ∷ []) × (figuresOf (foodFile 27) ≡ 4 ∷ 2 ∷ [])
   -- 'the reduction may go either way': with 0, 26 and 27 kg of food it is 0, 1 and 0.

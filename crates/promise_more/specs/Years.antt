@@ -1,6 +1,6 @@
 -- Document 02, request k, 'in the mode of i), for reference and project figures separately': two files, year by year and over a stretch.
 use mathlib.Core.Path.{_≡_}
-use Prim.Native.Nat.{ℕ, _≤_}
+use Prim.Native.Nat.{_≤_}
 use Rattle.reductions.specs.Year.{Year, referenceOf, projectOf, referenceBound, projectBound}
 use Rattle.tunisia.specs.declared.Reduction.{Reduction}
 use Rattle.promise_tunisia.specs.Reported.{StretchOfYears}
