@@ -7,7 +7,7 @@ library='' seed=1
 flags='-std=c11 -O2 -Wall -Wextra -Werror -Iinclude -Itests/c'
 # The files of the differential test.
 differential='differential years sludge orders work reported choices uncertainties tunisia accepted entered stretches columns
- worked refused sheets spoiled offers sides inputs ledgers reference entries reference_years reference_columns'
+ worked refused sheets spoiled more offers sides inputs ledgers reference entries reference_years reference_columns'
 
 stop() { printf '%s\n' "$*" >&2; exit 2; }
 

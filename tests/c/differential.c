@@ -1,6 +1,7 @@
 /* Runs the library and the reference on many inputs, good and bad, and compares every answer and every byte.
- * Usage: differential [SEED [PART]], where PART is ledgers, tunisia or columns and leaves the others out */
+ * Usage: differential [SEED [PART]], where PART is ledgers, tunisia, columns or more and leaves the others out */
 #include "columns.h"
+#include "more.h"
 #include "offers.h"
 #include "orders.h"
 #include "reference.h"
@@ -339,7 +340,7 @@ static void all_by_columns(void)
 static const struct {
     const char *name;
     void (*ask)(void);
-} PARTS[] = {{"ledgers", all_ledgers}, {"tunisia", all_reductions}, {"columns", all_by_columns}};
+} PARTS[] = {{"ledgers", all_ledgers}, {"tunisia", all_reductions}, {"columns", all_by_columns}, {"more", all_more}};
 
 /* Each part begins with the seed anew, so that it asks the same alone. */
 int main(int count, char **words)

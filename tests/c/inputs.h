@@ -5,6 +5,9 @@
 #include <stddef.h>
 #include <stdint.h>
 
+/* The most records of a ledger. */
+enum { FULL = 1200 };
+
 void seed(uint64_t number);
 uint64_t draw(void);
 uint64_t below(uint64_t count);

@@ -10,7 +10,7 @@
 #include <stdbool.h>
 #include <string.h>
 
-enum { TYPES = 8, BYTES = 48, ORDERS = 40320, FULL = 1200, MOST = 10000 };
+enum { TYPES = 8, BYTES = 48, ORDERS = 40320, MOST = 10000 };
 
 /* ---- The call, alike for both sides */
 

@@ -9,7 +9,7 @@
 
 #include <string.h>
 
-enum { TYPES = 8, BYTES = 48, FULL = 1200, MOST_MASS = 1000000000, SPLIT = 26 };
+enum { TYPES = 8, BYTES = 48, MOST_MASS = 1000000000, SPLIT = 26 };
 
 /* The next file to offer stands at the start. */
 static uint8_t file[FULL * BYTES];

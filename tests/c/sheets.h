@@ -2,10 +2,12 @@
 #ifndef SHEETS_H
 #define SHEETS_H
 
+#include "inputs.h"
+
 #include <stddef.h>
 #include <stdint.h>
 
-enum { FULL = 1200, PERIOD_BYTES = 48, TYPES = 8, FIGURES = TYPES };
+enum { PERIOD_BYTES = 48, TYPES = 8, FIGURES = TYPES };
 
 /* The file of the next call; it stands at the start. */
 extern uint8_t book[(FULL + 6) * PERIOD_BYTES];

@@ -216,6 +216,13 @@ void hold(const char *name, uint64_t number, uint64_t expected)
     end();
 }
 
+void hold_at_least(const char *name, uint64_t number, uint64_t least)
+{
+    if (number >= least) return;
+    printf("after call %" PRIu64 ", %s is %" PRIu64 " and not at least %" PRIu64 "\n", compared, name, number, least);
+    end();
+}
+
 void both(const char *name, call *make)
 {
     compared++;

@@ -98,6 +98,9 @@ void both(const char *name, call *make);
  * differ. */
 void hold(const char *name, uint64_t number, uint64_t expected);
 
+/* The same for a number that should be at least so much. */
+void hold_at_least(const char *name, uint64_t number, uint64_t least);
+
 /* The number of calls compared. */
 uint64_t calls(void);
 

@@ -7,7 +7,7 @@
 
 /* Types 7 and 8; what a record or an image has of them stands side by side. */
 enum sludge { DOMESTIC, PAPER };
-enum { FIRST = 6, MOST_MASS = 1000000000, CHANGED = 5, LISTED = 100, FULL = 1200 };
+enum { FIRST = 6, MOST_MASS = 1000000000, CHANGED = 5, LISTED = 100 };
 
 static void put_sludge(uint8_t *record, enum sludge which, uint64_t m, uint64_t mass)
 {

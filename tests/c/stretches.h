@@ -2,10 +2,12 @@
 #ifndef STRETCHES_H
 #define STRETCHES_H
 
+#include "inputs.h"
+
 #include <stddef.h>
 #include <stdint.h>
 
-enum { FULL = 1200, YEAR_BYTES = 48, MOST_ENTRIES = 65536 + FULL };
+enum { YEAR_BYTES = 48, MOST_ENTRIES = 65536 + FULL };
 
 /* The most grams that an entry may have. */
 extern const uint64_t LIMIT;

@@ -7,7 +7,7 @@
 #include <stdbool.h>
 
 enum form { PERCENTAGES, CODES };
-enum { COUNT = 6, FULL = 100, LARGEST = COUNT * FULL * FULL };
+enum { COUNT = 6, MOST = 100, LARGEST = COUNT * MOST * MOST };
 
 /* ---- The calls, alike for both sides */
 
@@ -36,7 +36,7 @@ static bool adds_up[COUNT + 1][LARGEST + 1];
 
 static bool is_sum(int k, int S)
 {
-    for (int x = 0; x <= FULL && x * x <= S; x++)
+    for (int x = 0; x <= MOST && x * x <= S; x++)
         if (adds_up[k - 1][S - x * x]) return true;
     return false;
 }
@@ -53,8 +53,8 @@ static void offer_sum(int S)
 {
     int first = (int)below(COUNT);
     for (int left = COUNT - 1; left >= 0; left--) {
-        int x = (int)below(FULL + 1);
-        while (x * x > S || !adds_up[left][S - x * x]) x = x == FULL ? 0 : x + 1;
+        int x = (int)below(MOST + 1);
+        while (x * x > S || !adds_up[left][S - x * x]) x = x == MOST ? 0 : x + 1;
         given.uncertainties[(first + left) % COUNT] = (uint8_t)x;
         S -= x * x;
     }
@@ -79,7 +79,7 @@ static void all_whole(void)
 static void make_valid(enum form form)
 {
     for (int place = 0; place < COUNT; place++)
-        given.uncertainties[place] = (uint8_t)(form == CODES && place >= 2 ? 1 + below(2) : edge(0, FULL));
+        given.uncertainties[place] = (uint8_t)(form == CODES && place >= 2 ? 1 + below(2) : edge(0, MOST));
 }
 
 static void all_bytes(enum form form)
@@ -137,7 +137,7 @@ static void all_codes(void)
 static void damage(void)
 {
     if (chance(10)) random_bytes(given.uncertainties, COUNT);
-    do given.uncertainties[below(COUNT)] = (uint8_t)(chance(50) ? edge(FULL, 255) : edge(0, 3));
+    do given.uncertainties[below(COUNT)] = (uint8_t)(chance(50) ? edge(MOST, 255) : edge(0, 3));
     while (chance(40));
 }
 

@@ -9,7 +9,7 @@
 
 #include <string.h>
 
-enum { TYPES = 8, BYTES = 48, FULL = 1200, SMALL = 14, VARIED = 4 };
+enum { TYPES = 8, BYTES = 48, SMALL = 14, VARIED = 4 };
 
 /* The next file to offer stands at the start. */
 static uint8_t file[(FULL + 1) * BYTES];
