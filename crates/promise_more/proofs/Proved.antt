@@ -1,16 +1,19 @@
 -- What request k claims, proved.
 use mathlib.Core.Path.{_≡_}
 use mathlib.Core.List.{List}
-use Prim.Native.Nat.{ℕ}
+use Prim.Native.Nat.{ℕ, _*_, _≤_}
+use lib.ListN.{length}
+use Rattle.numbers.specs.Lists.{Each}
+use Rattle.record.specs.Fields.{recordBytes}
 use Rattle.ledger.specs.Step.{fresh}
 use Rattle.ledger.proofs.Accepted.{fresh-sound}
 use Rattle.run.specs.History.{turns, recordsOf, inTurn, runOf}
-use Rattle.run.proofs.History.{none-refused}
-use Rattle.promise_more.specs.More.{MoreWaste, Pairs, InFiles, TurnNoLess}
+use Rattle.run.proofs.History.{none-refused, none-ending}
+use Rattle.promise_more.specs.More.{EqualButMasses, MoreWaste, WithinLimit, Pairs, InFiles, TurnNoLess}
 use Rattle.promise_more.specs.Promise.{MorePromise}
 use Rattle.promise_more.proofs.Records.{fresh-place}
 use Rattle.promise_more.proofs.Steps.{fresh-holds}
-use Rattle.promise_more.proofs.Turns.{turns-no-less, in-turn, turns-accepted}
+use Rattle.promise_more.proofs.Turns.{turns-no-less, in-turn, light-offers, turns-accepted}
 use Rattle.promise_more.proofs.Years.{more-by-year, still-accepted-by-year, more-over-years}
 use Rattle.promise_more.proofs.Example.{more-food, more-gas, either-way}
 
@@ -27,12 +30,23 @@ more-in-a-run first second room room′ m none none′ =
     rw (all .1, all′ .1)
     (turns-no-less offers offers′ 1 fresh fresh fresh-place fresh-holds (in-turn MoreWaste (recordsOf first) (recordsOf second) room room′ m) (all .0) (all′ .0))
 
+still-accepted-in-a-run : (first second : List ℕ) (room room′ : ℕ) → InFiles EqualButMasses first second → runOf fresh (recordsOf first) room .refusal ≡ 0
+    → Each (λ i bytes. WithinLimit bytes) 1 (recordsOf second) → recordBytes * length (recordsOf second) ≤ room′ → runOf fresh (recordsOf second) room′ .refusal ≡ 0
+unfolding runOf
+still-accepted-in-a-run first second room room′ m none within enough =
+    let offers = inTurn (recordsOf first) room in
+    let offers′ = inTurn (recordsOf second) room′ in
+    none-ending 1 (turns fresh offers′)
+    (turns-accepted offers offers′ 1 fresh fresh fresh-place fresh-sound (in-turn EqualButMasses (recordsOf first) (recordsOf second) room room′ m)
+    (none-refused 1 (turns fresh offers) none .0) (light-offers (recordsOf second) 1 room′ within enough))
+
 pub more-promise : MorePromise
 more-promise =
     record {
       more-offered = λ first second m e e′. turns-no-less first second 1 fresh fresh fresh-place fresh-holds m e e′;
       more-in-a-run = more-in-a-run;
       still-accepted = λ first second m e fits. turns-accepted first second 1 fresh fresh fresh-place fresh-sound m e fits;
+      still-accepted-in-a-run = still-accepted-in-a-run;
       more-by-year = more-by-year;
       still-accepted-by-year = still-accepted-by-year;
       more-over-years = more-over-years;

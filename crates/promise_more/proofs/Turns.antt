@@ -2,8 +2,11 @@
 use mathlib.Core.Path.{_≡_, sym, _∙_}
 use mathlib.Core.Bool.{true}
 use mathlib.Core.List.{List, [], _∷_}
-use Prim.Native.Nat.{ℕ, _+_}
+use Prim.Native.Nat.{ℕ, _+_, _-_, _*_, _≤_}
+use native.Mathlib.Omega.{arith}
+use lib.ListN.{length}
 use Rattle.numbers.specs.Lists.{Each}
+use Rattle.record.specs.Fields.{recordBytes}
 use Rattle.ledger.specs.Refusal.{sound, refusalOf}
 use Rattle.ledger.specs.Take.{acceptedOf, takeOf}
 use Rattle.ledger.specs.declared.book.Ledger.{Ledger}
@@ -11,7 +14,7 @@ use Rattle.ledger.proofs.Accepted.{accepted-meets, accepted-sound}
 use Rattle.ledger.proofs.Take.{taken, take-refusal}
 use Rattle.run.specs.History.{Offer, Turn, turnOf, turns, inTurn}
 use Rattle.run.proofs.History.{NotRefused}
-use Rattle.promise_more.specs.More.{EqualButMasses, MoreWaste, Pairs, Offered, LightOffer, TurnNoLess}
+use Rattle.promise_more.specs.More.{EqualButMasses, MoreWaste, WithinLimit, Pairs, Offered, LightOffer, TurnNoLess}
 use Rattle.promise_more.proofs.Records.{SamePlace, place-after, accepts-too}
 use Rattle.promise_more.proofs.Steps.{HoldsMore, more-after, no-less}
 
@@ -46,6 +49,14 @@ in-turn P [] [] room room′ p = tt
 in-turn P [] (other ∷ second) room room′ p = absurd p
 in-turn P (one ∷ first) [] room room′ p = absurd p
 in-turn P (one ∷ first) (other ∷ second) room room′ p = (p .0, in-turn P first second _ _ (p .1))
+
+-- With room for all of them, each record that is within the limit has room.
+pub light-offers : (records : List (List ℕ)) (i room : ℕ) → Each (λ i bytes. WithinLimit bytes) i records → recordBytes * length records ≤ room
+    → Each (λ i offer. LightOffer offer) i (inTurn records room)
+unfolding inTurn
+light-offers [] i room within enough = tt
+light-offers (bytes ∷ rest) i room within enough =
+    ((within .0, omega arith), light-offers rest (i + 1) (room - recordBytes) (within .1) (omega arith))
 
 pub turns-accepted : (first second : List Offer) (i : ℕ) (l l′ : Ledger) → SamePlace l l′ → sound l′ ≡ true → Offered EqualButMasses first second
     → Each NotRefused i (turns l first) → Each (λ i offer. LightOffer offer) i second → Each NotRefused i (turns l′ second)

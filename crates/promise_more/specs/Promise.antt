@@ -1,8 +1,10 @@
 -- Document 02, request k, 'More waste never shows less gas'. proofs/Proved.antt proves `MorePromise`.
 use mathlib.Core.Path.{_≡_}
 use mathlib.Core.List.{List, [], _∷_}
-use Prim.Native.Nat.{ℕ}
+use Prim.Native.Nat.{ℕ, _*_, _≤_}
+use lib.ListN.{length}
 use Rattle.numbers.specs.Lists.{Each}
+use Rattle.record.specs.Fields.{recordBytes}
 use Rattle.ledger.specs.Step.{fresh}
 use Rattle.run.specs.History.{Offer, turns, recordsOf, runOf}
 use Rattle.tunisia.specs.Years.{acceptedYears, refusalAfter, yearsOf}
@@ -24,6 +26,8 @@ pub record MorePromise : Type 0 where
   -- That the second is accepted need not be assumed where its masses are within the limit and its output has room; they may be less, too.
   pub still-accepted : (first second : List Offer) → Offered EqualButMasses first second → AllAccepted (turns fresh first)
       → Each (λ i offer. LightOffer offer) 1 second → AllAccepted (turns fresh second)
+  pub still-accepted-in-a-run : (first second : List ℕ) (room room′ : ℕ) → InFiles EqualButMasses first second → runOf fresh (recordsOf first) room .refusal ≡ 0
+      → Each (λ i bytes. WithinLimit bytes) 1 (recordsOf second) → recordBytes * length (recordsOf second) ≤ room′ → runOf fresh (recordsOf second) room′ .refusal ≡ 0
   -- '[..] and in the mode of i), for reference and project figures separately', with their bounds: year by year,
   pub more-by-year : (first second : List ℕ) → InFiles MoreWaste first second → refusalAfter first ≡ 0 → refusalAfter second ≡ 0
       → Pairs YearNoLess (yearsOf (acceptedYears first)) (yearsOf (acceptedYears second))
