@@ -30,7 +30,7 @@ pub left-less : (H D : ℕ) → D < 10 ^ 9 → 0 < H → leftOf H D < H
 unfolding leftOf
 left-less H D h some = omega (arith, mul-le-mul-left H h)
 
--- Where more is held, no less is left, and no less released: what is held more is more by at least what is left more.
+-- Where more is held, no less is left, and no less is released: D is below 10^9, so what is left rises by no more than what is held.
 pub left-grows : (H H′ D : ℕ) → H ≤ H′ → leftOf H D ≤ leftOf H′ D
 unfolding leftOf
 left-grows H H′ D h = omega (arith, mul-le-mul-right D h)

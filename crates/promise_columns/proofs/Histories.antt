@@ -17,26 +17,26 @@ use Rattle.ledger.specs.Refusal.{sound, refusalOf}
 use Rattle.ledger.specs.Take.{acceptedOf, takeOf}
 use Rattle.ledger.specs.declared.book.Ledger.{Ledger}
 use Rattle.ledger.proofs.Take.{taken, take-refusal}
-use Rattle.run.specs.History.{Offer, Turn, turnOf, turns, ledgerAfter, ending, recordsOf, inTurn, wholeRun, runOf}
-use Rattle.run.proofs.History.{NotRefused, none-refused, none-ending}
+use Rattle.run.specs.History.{Offer, Turn, turnOf, turns, ledgerAfter, AllAccepted, ending, recordsOf, inTurn, wholeRun, runOf}
+use Rattle.run.proofs.History.{none-refused, none-ending}
 use Rattle.promise_columns.specs.Sheets.{history, NoneRefused}
 
 module _ (file : List ℕ) where
   pub none-then : wholeRun file .refusal ≡ 0 → NoneRefused file
   unfolding wholeRun runOf
-  none-then e = none-refused 0 (history file) e .0
+  none-then e = none-refused (history file) e .0
 
   pub none-if : NoneRefused file → wholeRun file .refusal ≡ 0
   unfolding wholeRun runOf
-  none-if e = none-ending 0 (history file) e
+  none-if e = none-ending (history file) e
 
   pub accepted-all : wholeRun file .refusal ≡ 0 → wholeRun file .accepted ≡ history file
   unfolding wholeRun runOf
-  accepted-all e = none-refused 0 (history file) e .1
+  accepted-all e = none-refused (history file) e .1
 
   pub ledger-end : wholeRun file .refusal ≡ 0 → wholeRun file .ledger ≡ ledgerAfter fresh (history file)
   unfolding wholeRun runOf
-  ledger-end e = ap (ledgerAfter fresh) (none-refused 0 (history file) e .1)
+  ledger-end e = ap (ledgerAfter fresh) (none-refused (history file) e .1)
 
 -- No refusal of a record is above 17, so none is 26.
 refusal-most : (l : Ledger) (bytes : List ℕ) (room : ℕ) → refusalOf l bytes room ≤ 17
@@ -65,7 +65,7 @@ figure-added : (l : Ledger) (bytes : List ℕ) → acceptedOf l bytes .figure �
 unfolding acceptedOf x0Of
 figure-added l bytes = refl
 
-figures-added : (i : ℕ) (l : Ledger) (offers : List Offer) → Each NotRefused i (turns l offers) → Each FromReleases i (turns l offers)
+figures-added : (i : ℕ) (l : Ledger) (offers : List Offer) → AllAccepted (turns l offers) → Each FromReleases i (turns l offers)
 unfolding turns
 figures-added i l [] e = tt
 figures-added i l (offer ∷ rest) e =

@@ -10,7 +10,7 @@ use Rattle.record.specs.Fields.{recordBytes, factorsOf}
 use Rattle.figure.specs.Figure.{figureOf}
 use Rattle.ledger.specs.Step.{fresh, stockAt}
 use Rattle.ledger.specs.declared.book.Ledger.{Ledger}
-use Rattle.run.specs.History.{Turn, turns, ledgerAfter, recordsOf, inTurn}
+use Rattle.run.specs.History.{Turn, turns, ledgerAfter, AllAccepted, recordsOf, inTurn}
 use Rattle.by_type.specs.Columns.{columnsOf, filledOf}
 
 -- What a call is handed: a file, the columns of types 1 to 8 as they are, and the ninth.
@@ -47,7 +47,7 @@ endLedger file = ledgerAfter fresh (history file)
 
 -- It refuses no record.
 abbrev pub NoneRefused : (file : List ℕ) → Type 0
-NoneRefused file = Each (λ i turn. turn .answer .refusal ≡ 0) 0 (history file)
+NoneRefused file = AllAccepted (history file)
 
 -- No column 'has fewer places than the run has records'.
 abbrev pub Long : Lent → Type 0

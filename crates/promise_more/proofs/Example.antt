@@ -49,10 +49,8 @@ more-food = (
   (by-tests _ _ refl refl refl, (by-tests _ _ refl refl refl, tt)),
 )
 
-pub more-gas : (figuresOf (foodFile 26) ≡ 3 ∷ 2 ∷ []) × (figuresOf (foodFile 27) ≡ 4 ∷ 2 ∷ [])
-unfolding foodFile foodRecord recordsOf cut leading ending inTurn turns ledgerAfter runOf wholeRun power total factorial term E roundedDown entryOf carbonOf rateOf correctionOf Fields.factorsOf Fields.dryOf Fields.zerosOf Fields.massOf Fields.depositOf Ranges.coded Ranges.inRange Ranges.dryInRange Ranges.light Carbon.entryAt Carbon.leftOf Carbon.ceilingOf Carbon.withinOf Step.fresh Step.newBrought Step.held Step.newStock Step.release Step.newReleased Step.x0Of Step.after YearFactors.yearOf YearFactors.noYear YearFactors.shares YearFactors.remembered YearFactors.soundYear Figure.x1Of Figure.x2Of Figure.gramsOf Figure.figureOf Figure.marginOf Figure.BOf Figure.boundOf continues faultsOf Refusal.emptyAt Refusal.allZero Refusal.withinAt Refusal.inOrder Refusal.sound acceptedOf refusedOf Refusal.refusalOf takeOf
-more-gas = (refl, refl)
-
-pub either-way : (secondYear 0 ≡ answeredWith 0 0 0) × (secondYear 26 ≡ answeredWith 2 1 1) × (secondYear 27 ≡ answeredWith 2 2 0)
-unfolding foodFile foodRecord recordsOf cut leading ending power total factorial term E roundedDown entryOf carbonOf rateOf correctionOf Fields.factorsOf Fields.dryOf Fields.zerosOf Fields.massOf Fields.depositOf Ranges.coded Ranges.inRange Ranges.dryInRange Ranges.light Carbon.entryAt Carbon.leftOf Carbon.ceilingOf Carbon.withinOf Step.fresh Step.newBrought Step.held Step.newStock Step.release Step.newReleased Step.x0Of Step.after YearFactors.yearOf YearFactors.noYear YearFactors.shares YearFactors.remembered YearFactors.soundYear Figure.x1Of Figure.x2Of Figure.gramsOf Figure.figureOf Figure.marginOf Figure.BOf Figure.boundOf continues faultsOf Refusal.emptyAt Refusal.allZero Refusal.withinAt Refusal.inOrder Refusal.sound acceptedOf refusedOf Year.inClass Year.referenceOf Year.projectOf Year.projectBound Year.referenceBound Year.boundsOf Year.stretchOf Stretch.gramsLight Stretch.isStretch Stretch.stretchRefusal Stretch.lessAll Years.refusalByYear Years.turnByYear Years.turnsByYear Years.acceptedYears Years.refusalAfter Years.countedYear Years.yearsFrom Years.yearsOf answerOver noAnswer reductionOf
-either-way = (refl, refl, refl)
+-- The figures by a run, and the reductions of year 2.
+pub computed : ((figuresOf (foodFile 26) ≡ 3 ∷ 2 ∷ []) × (figuresOf (foodFile 27) ≡ 4 ∷ 2 ∷ []))
+    × ((secondYear 0 ≡ answeredWith 0 0 0) × (secondYear 26 ≡ answeredWith 2 1 1) × (secondYear 27 ≡ answeredWith 2 2 0))
+unfolding foodFile foodRecord recordsOf cut leading ending inTurn turns ledgerAfter runOf wholeRun power total factorial term E roundedDown entryOf carbonOf rateOf correctionOf Fields.factorsOf Fields.dryOf Fields.zerosOf Fields.massOf Fields.depositOf Ranges.coded Ranges.inRange Ranges.dryInRange Ranges.light Carbon.entryAt Carbon.leftOf Carbon.ceilingOf Carbon.withinOf Step.fresh Step.newBrought Step.held Step.newStock Step.release Step.newReleased Step.x0Of Step.after YearFactors.yearOf YearFactors.noYear YearFactors.shares YearFactors.remembered YearFactors.soundYear Figure.x1Of Figure.x2Of Figure.gramsOf Figure.figureOf Figure.marginOf Figure.BOf Figure.boundOf continues faultsOf Refusal.emptyAt Refusal.allZero Refusal.withinAt Refusal.inOrder Refusal.sound acceptedOf refusedOf Refusal.refusalOf takeOf Year.inClass Year.referenceOf Year.projectOf Year.projectBound Year.referenceBound Year.boundsOf Year.stretchOf Stretch.gramsLight Stretch.isStretch Stretch.stretchRefusal Stretch.lessAll Years.refusalByYear Years.turnByYear Years.turnsByYear Years.acceptedYears Years.refusalAfter Years.countedYear Years.yearsFrom Years.yearsOf answerOver noAnswer reductionOf
+computed = ((refl, refl), (refl, refl, refl))

@@ -1,4 +1,5 @@
--- Records that are equal but for masses are tested alike and remembered alike, so a ledger at the same place accepts both.
+-- Records that are equal but for masses are tested and remembered alike. So where one ledger accepts the first, another at the same place accepts
+-- the second, unless a mass is over the limit.
 use mathlib.Core.Path.{_≡_, refl, sym, ap, _∙_}
 use mathlib.Core.Bool.{true}
 use mathlib.Core.List.{List}

@@ -12,8 +12,7 @@ use Rattle.ledger.specs.Take.{acceptedOf, takeOf}
 use Rattle.ledger.specs.declared.book.Ledger.{Ledger}
 use Rattle.ledger.proofs.Accepted.{accepted-meets, accepted-sound}
 use Rattle.ledger.proofs.Take.{taken, take-refusal}
-use Rattle.run.specs.History.{Offer, Turn, turnOf, turns, inTurn}
-use Rattle.run.proofs.History.{NotRefused}
+use Rattle.run.specs.History.{Offer, Turn, turnOf, turns, AllAccepted, inTurn}
 use Rattle.promise_more.specs.More.{EqualButMasses, MoreWaste, WithinLimit, Pairs, Offered, LightOffer, TurnNoLess}
 use Rattle.promise_more.proofs.Records.{SamePlace, place-after, accepts-too}
 use Rattle.promise_more.proofs.Steps.{HoldsMore, more-after, no-less}
@@ -26,13 +25,13 @@ module _ (l : Ledger) (offer : Offer) where
   answers : takeOf l (offer .bytes) (offer .room) .refusal ≡ 0 → takeOf l (offer .bytes) (offer .room) ≡ acceptedOf l (offer .bytes)
   answers e = taken l (offer .bytes) (offer .room) (accepts e)
 
-pub turns-no-less : (first second : List Offer) (i : ℕ) (l l′ : Ledger) → SamePlace l l′ → HoldsMore l l′ → Offered MoreWaste first second
-    → Each NotRefused i (turns l first) → Each NotRefused i (turns l′ second) → Pairs TurnNoLess (turns l first) (turns l′ second)
+pub turns-no-less : (first second : List Offer) (l l′ : Ledger) → SamePlace l l′ → HoldsMore l l′ → Offered MoreWaste first second
+    → AllAccepted (turns l first) → AllAccepted (turns l′ second) → Pairs TurnNoLess (turns l first) (turns l′ second)
 unfolding turns acceptedOf
-turns-no-less [] [] i l l′ s h m e e′ = tt
-turns-no-less [] (other ∷ second) i l l′ s h m e e′ = absurd m
-turns-no-less (one ∷ first) [] i l l′ s h m e e′ = absurd m
-turns-no-less (one ∷ first) (other ∷ second) i l l′ s h m e e′ =
+turns-no-less [] [] l l′ s h m e e′ = tt
+turns-no-less [] (other ∷ second) l l′ s h m e e′ = absurd m
+turns-no-less (one ∷ first) [] l l′ s h m e e′ = absurd m
+turns-no-less (one ∷ first) (other ∷ second) l l′ s h m e e′ =
     let a = answers l one (e .0) in
     let b = answers l′ other (e′ .0) in
     let now : TurnNoLess (turnOf l one) (turnOf l′ other) = rw (a, b) (no-less l l′ s h (one .bytes) (other .bytes) (m .0)) in
@@ -40,9 +39,9 @@ turns-no-less (one ∷ first) (other ∷ second) i l l′ s h m e e′ =
     = rw (a, b) (place-after l l′ s (one .bytes) (other .bytes) (m .0 .equal)) in
     let more : HoldsMore (turnOf l one .answer .ledger) (turnOf l′ other .answer .ledger)
     = rw (a, b) (more-after l l′ s h (one .bytes) (other .bytes) (m .0)) in
-    (now, turns-no-less first second (i + 1) (turnOf l one .answer .ledger) (turnOf l′ other .answer .ledger) place more (m .1) (e .1) (e′ .1))
+    (now, turns-no-less first second (turnOf l one .answer .ledger) (turnOf l′ other .answer .ledger) place more (m .1) (e .1) (e′ .1))
 
--- Records that are offered in turn are equal but for masses where the offers' bytes are.
+-- What holds of two lists of records pair by pair holds of them offered in turn.
 pub in-turn : (P : List ℕ → List ℕ → Type 0) (first second : List (List ℕ)) (room room′ : ℕ) → Pairs P first second → Offered P (inTurn first room) (inTurn second room′)
 unfolding inTurn
 in-turn P [] [] room room′ p = tt
@@ -59,7 +58,7 @@ light-offers (bytes ∷ rest) i room within enough =
     ((within .0, omega arith), light-offers rest (i + 1) (room - recordBytes) (within .1) (omega arith))
 
 pub turns-accepted : (first second : List Offer) (i : ℕ) (l l′ : Ledger) → SamePlace l l′ → sound l′ ≡ true → Offered EqualButMasses first second
-    → Each NotRefused i (turns l first) → Each (λ i offer. LightOffer offer) i second → Each NotRefused i (turns l′ second)
+    → AllAccepted (turns l first) → Each (λ i offer. LightOffer offer) i second → AllAccepted (turns l′ second)
 unfolding turns acceptedOf
 turns-accepted [] [] i l l′ s good m e fits = tt
 turns-accepted [] (other ∷ second) i l l′ s good m e fits = absurd m

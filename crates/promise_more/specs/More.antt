@@ -4,7 +4,6 @@ use mathlib.Core.Path.{_≡_}
 use mathlib.Core.List.{List, [], _∷_}
 use Prim.Native.Nat.{ℕ, _^_, _≤_, _<_}
 use lib.ListN.{length, getD}
-use Rattle.numbers.specs.Lists.{Each}
 use Rattle.record.specs.Fields.{recordBytes, massOf}
 use Rattle.ledger.specs.Step.{broughtAt, stockAt, releasedAt}
 use Rattle.ledger.specs.Take.{totalStock, totalBrought}
@@ -42,10 +41,6 @@ InFiles P first second = Pairs P (recordsOf first) (recordsOf second)
 -- An offer with no mass over the limit, and with room for its output record.
 abbrev pub LightOffer : Offer → Type 0
 LightOffer offer = WithinLimit (offer .bytes) × (recordBytes ≤ offer .room)
-
--- 'all accepted'
-abbrev pub AllAccepted : List Turn → Type 0
-AllAccepted turns = Each (λ i turn. turn .answer .refusal ≡ 0) 1 turns
 
 -- 'every release of every type, every stock, figure and bound in the second is at least that in the first': the step's two answers to a
 -- record. With them what was brought in and released so far, x0, and the total R and T that the output record has.

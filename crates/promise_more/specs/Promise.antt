@@ -6,10 +6,10 @@ use lib.ListN.{length}
 use Rattle.numbers.specs.Lists.{Each}
 use Rattle.record.specs.Fields.{recordBytes}
 use Rattle.ledger.specs.Step.{fresh}
-use Rattle.run.specs.History.{Offer, turns, recordsOf, runOf}
+use Rattle.run.specs.History.{Offer, turns, AllAccepted, recordsOf, runOf}
 use Rattle.tunisia.specs.Years.{acceptedYears, refusalAfter, yearsOf}
 use Rattle.promise_tunisia.specs.Reported.{StretchOfYears, reported}
-use Rattle.promise_more.specs.More.{EqualButMasses, MoreWaste, WithinLimit, Pairs, Offered, InFiles, LightOffer, AllAccepted, TurnNoLess}
+use Rattle.promise_more.specs.More.{EqualButMasses, MoreWaste, WithinLimit, Pairs, Offered, InFiles, LightOffer, TurnNoLess}
 use Rattle.promise_more.specs.Years.{YearNoLess, StretchNoLess, SameYears}
 use Rattle.promise_more.specs.Example.{foodFile, figuresOf, secondYear, answeredWith}
 

@@ -1,19 +1,18 @@
 -- How a history goes: the records of a file, a step that accepts, a step that refuses, and stretches one after another.
 use mathlib.Core.Path.{_≡_, refl, sym, ap, _∙_}
 use mathlib.Core.List.{List, [], _∷_, _++_, append-assoc}
-use Prim.Native.Nat.{ℕ, zero, suc, _+_, _-_, _*_, _/_, _≤_, _<_}
+use Prim.Native.Nat.{ℕ, zero, suc, _+_, _-_, _*_, _≤_, _<_}
 use native.Mathlib.Decide.{ℕ-discrete}
 use native.Mathlib.Omega.{arith}
 use borrow.Author.Tests.{eq-eqb, ne-eqb}
 use lib.ListN.{length, take, drop, length-drop, length-append, length-take}
 use lib.Seq.{take-append-le, drop-append-le, take-all}
-use Rattle.numbers.specs.Lists.{Each}
 use Rattle.record.specs.Fields.{recordBytes}
 use Rattle.carbon.specs.Carbon.{mostRecords}
 use Rattle.ledger.specs.Step.{after}
 use Rattle.ledger.specs.Refusal.{refusalOf}
 use Rattle.ledger.specs.Take.{acceptedOf, takeOf, outputRecord}
-use Rattle.run.specs.History.{Turn, turnOf, turns, ledgerAfter, leading, ending, outputs, workOver, cut, recordsBegun, recordsOf, inTurn, Run, runOf}
+use Rattle.run.specs.History.{Turn, turnOf, turns, ledgerAfter, AllAccepted, leading, ending, outputs, workOver, cut, recordsBegun, recordsOf, inTurn, Run, runOf}
 use Rattle.ledger.specs.declared.book.Ledger.{Ledger}
 use Rattle.ledger.proofs.Take.{taken, take-refusal, output-length}
 use Rattle.ledger.proofs.Accepted.{accepted-meets, room-alike}
@@ -107,26 +106,23 @@ run-ends l room = refl
 pub on-from : (done : List Turn) (turn : Turn) (r : Run) → onFrom done (onFrom (turn ∷ []) r) ≡ onFrom (done ++ (turn ∷ [])) r
 on-from done turn r = λ i. record { ledger = r .ledger; accepted = sym (append-assoc done (turn ∷ []) (r .accepted)) i; refusal = r .refusal }
 
--- Turns of which none is refused are all leading ones, and end with 0.
-abbrev pub NotRefused : ℕ → Turn → Type 0
-NotRefused i turn = turn .answer .refusal ≡ 0
-
-pub none-refused : (i : ℕ) (all : List Turn) → ending all ≡ 0 → Each NotRefused i all × (leading all ≡ all)
+-- Turns that are all accepted are all leading ones, and end with 0.
+pub none-refused : (all : List Turn) → ending all ≡ 0 → AllAccepted all × (leading all ≡ all)
 unfolding ending leading
-none-refused i [] e = (tt, refl)
-none-refused i (turn ∷ rest) e =
+none-refused [] e = (tt, refl)
+none-refused (turn ∷ rest) e =
     elim (ℕ-discrete (turn .answer .refusal) 0) [
       | yes z ↦
           let test = eq-eqb (turn .answer .refusal) 0 z in
-          let on = none-refused (i + 1) rest (simp test at e) in
+          let on = none-refused rest (simp test at e) in
           ((z, on .0), simp test (ap (λ (ts : List Turn). turn ∷ ts) (on .1)))
       | no z ↦ absurd (z (simp (ne-eqb (turn .answer .refusal) 0 z) at e))
     ]
 
-pub none-ending : (i : ℕ) (all : List Turn) → Each NotRefused i all → ending all ≡ 0
+pub none-ending : (all : List Turn) → AllAccepted all → ending all ≡ 0
 unfolding ending
-none-ending i [] e = refl
-none-ending i (turn ∷ rest) e = simp (eq-eqb (turn .answer .refusal) 0 (e .0)) (none-ending (i + 1) rest (e .1))
+none-ending [] e = refl
+none-ending (turn ∷ rest) e = simp (eq-eqb (turn .answer .refusal) 0 (e .0)) (none-ending rest (e .1))
 
 -- A run that refuses nothing takes its first record, and refuses none of the rest.
 pub run-takes : (l : Ledger) (bytes : List ℕ) (rest : List (List ℕ)) (room : ℕ) → runOf l (bytes ∷ rest) room .refusal ≡ 0

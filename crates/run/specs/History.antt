@@ -1,5 +1,6 @@
 -- Document 01, 'One step', its last paragraph, and demand 3: records taken in turn; and document 02, request h: the decay work of a run.
 -- Runs, listings and offerings are read off it.
+use mathlib.Core.Path.{_≡_}
 use mathlib.Core.Bool.{Bool, cond}
 use mathlib.Core.List.{List, [], _∷_, _++_}
 use Prim.Native.Nat.{ℕ, zero, suc, _+_, _-_, _*_, _/_}
@@ -44,6 +45,11 @@ isAccepted turn = eqb (turn .answer .refusal) 0
 unfoldable pub accepted : List Turn → List Turn
 accepted [] = []
 accepted (turn ∷ rest) = cond (isAccepted turn) (turn ∷ accepted rest) (accepted rest)
+
+-- All of them are.
+abbrev pub AllAccepted : List Turn → Type 0
+AllAccepted [] = Unit
+AllAccepted (turn ∷ rest) = (turn .answer .refusal ≡ 0) × AllAccepted rest
 
 -- 'It stops at the first record that is refused': the leading ones, which are accepted, and the refusal that ends them, 0 if none.
 unfoldable pub leading : List Turn → List Turn

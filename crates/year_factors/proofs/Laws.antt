@@ -1,4 +1,4 @@
--- What is remembered stays sound, and after an accepted monthly record it is that record's own; of a record it hangs on bytes 0 to 11 alone.
+-- What is remembered stays sound, and after an accepted monthly record it is that record's own. Of a record only bytes 0 to 11 matter to it.
 use mathlib.Core.Path.{_≡_, refl, sym, ap, _∙_}
 use mathlib.Core.Bool.{Bool, true, false, cond, _&&_, and-false, true≢false}
 use mathlib.Core.List.{List}
