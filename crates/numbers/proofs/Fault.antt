@@ -2,10 +2,10 @@
 -- also where one is inserted.
 use mathlib.Core.Path.{_≡_, refl, sym, _∙_}
 use mathlib.Core.Bool.{Bool, true, false, cond, _&&_, _||_, and-false, or-true}
-use mathlib.Core.List.{List, [], _∷_}
+use mathlib.Core.List.{List, [], _∷_, _++_}
 use Prim.Native.Nat.{ℕ, zero, suc, _≤_}
 use native.Mathlib.Omega.{arith}
-use borrow.Author.Tests.{leb-true, eq-eqb}
+use borrow.Author.Tests.{leb-true, eq-eqb, ne-eqb, le-ltb}
 use lib.Dec.{eqb, leb, ltb, eqb·suc-zero}
 use Rattle.numbers.specs.Fault.{Fault, _when_, between, firstOf, ahead, inserted}
 use Rattle.numbers.proofs.Eight.{both-true}
@@ -109,6 +109,25 @@ inserted-first k number bad ((suc m, other) ∷ rest) n = by-test (eqb (suc m) k
     by-test false true on = rw (eqb·suc-zero m)
     by-test false false on = on
 
+-- Where the faults before it have numbers up to m and those after it have numbers over m, the refusal is known from that without it.
+pub inserted-turns : (k number m : ℕ) (bad : Bool) (faults : List Fault) → allNumbered faults ≡ true → allUpTo m (ahead k faults) ≡ true
+    → allOver m (onward k faults) ≡ true
+    → firstOf (inserted k (number when bad) faults) ≡ cond (bad && (eqb (firstOf faults) 0 || ltb m (firstOf faults))) number (firstOf faults)
+inserted-turns k number m bad faults n up over =
+    let p = parted k faults n in
+    inserted-first k number bad faults n
+    ∙ by-early (firstOf (ahead k faults)) (firstOf (onward k faults)) (firstOf faults) (first-up-to m (ahead k faults) up) (first-over m (onward k faults) over) (p .0) (p .1)
+  where
+    by-late : (b : Bool) (late : ℕ) → cond b number late ≡ cond (b && true) number late
+    by-late true late = refl
+    by-late false late = refl
+
+    by-early : (early late q : ℕ) → early ≤ m → (eqb late 0 || ltb m late) ≡ true → ((early ≡ 0 → ⊥) → q ≡ early) → (early ≡ 0 → q ≡ late)
+        → firstWith number bad early late ≡ cond (bad && (eqb q 0 || ltb m q)) number q
+    by-early zero late q small large some none = rw (none refl, large) (by-late bad late)
+    by-early (suc early) late q small large some none =
+        rw (some (λ z. omega arith)) (simp (ne-eqb (suc early) 0 (λ z. omega arith), le-ltb m (suc early) small, and-false))
+
 -- One that is not there changes no refusal.
 pub inserted-absent : (k number : ℕ) (bad : Bool) (faults : List Fault) → bad ≡ false → firstOf (inserted k (number when bad) faults) ≡ firstOf faults
 inserted-absent k number bad [] e = rw e
@@ -142,3 +161,11 @@ inserted-numbered k (suc number) bad ((suc m, other) ∷ rest) n = by-test (eqb 
         → allNumbered (cond here (suc number when bad ∷ suc m when other ∷ rest) (suc m when other ∷ inserted k (suc number when bad) rest)) ≡ true
     by-test true on = n
     by-test false on = on
+
+-- A fault that comes last refuses where no other does.
+pub first-last : (number : ℕ) (bad : Bool) (faults : List Fault) → allNumbered faults ≡ true
+    → firstOf (faults ++ (number when bad ∷ [])) ≡ cond (eqb (firstOf faults) 0) (cond bad number 0) (firstOf faults)
+first-last number bad [] n = refl
+first-last number bad ((zero, other) ∷ rest) n = cc
+first-last number bad ((suc m, true) ∷ rest) n = rw (eqb·suc-zero m)
+first-last number bad ((suc m, false) ∷ rest) n = first-last number bad rest n

@@ -1,21 +1,24 @@
 -- How a history goes: the records of a file, a step that accepts, a step that refuses, and stretches one after another.
 use mathlib.Core.Path.{_≡_, refl, sym, ap, _∙_}
-use mathlib.Core.List.{List, [], _∷_, _++_, append-assoc}
+use mathlib.Core.Bool.{true, false, _&&_}
+use mathlib.Core.List.{List, [], _∷_, _++_, append-assoc, append-nil}
 use Prim.Native.Nat.{ℕ, zero, suc, _+_, _-_, _*_, _≤_, _<_}
-use native.Mathlib.Decide.{ℕ-discrete}
+use native.Mathlib.Decide.{decLe, ℕ-discrete}
 use native.Mathlib.Omega.{arith}
-use borrow.Author.Tests.{eq-eqb, ne-eqb}
-use lib.ListN.{length, take, drop, length-drop, length-append, length-take}
-use lib.Seq.{take-append-le, drop-append-le, take-all}
+use borrow.Author.Tests.{eq-eqb, ne-eqb, eqb-true, ltb-true, ltb-false}
+use lib.Dec.{eqb, ltb}
+use lib.ListN.{length, take, drop, length-drop, length-append, length-take, take-append-drop}
+use lib.Seq.{take-append-le, drop-append-le, take-all, length-take-le}
+use Rattle.numbers.proofs.Eight.{both-true}
 use Rattle.record.specs.Fields.{recordBytes}
 use Rattle.carbon.specs.Carbon.{mostRecords}
 use Rattle.ledger.specs.Step.{after}
 use Rattle.ledger.specs.Refusal.{refusalOf}
 use Rattle.ledger.specs.Take.{acceptedOf, takeOf, outputRecord}
-use Rattle.run.specs.History.{Turn, turnOf, turns, ledgerAfter, AllAccepted, leading, ending, outputs, workOver, cut, recordsBegun, recordsOf, inTurn, Run, runOf}
+use Rattle.run.specs.History.{Offer, Turn, turnOf, turns, ledgerAfter, AllAccepted, leading, ending, outputs, workOver, cut, recordsBegun, recordsOf, inTurn, Run, readOff, runOf}
 use Rattle.ledger.specs.declared.book.Ledger.{Ledger}
 use Rattle.ledger.proofs.Take.{taken, take-refusal, output-length}
-use Rattle.ledger.proofs.Accepted.{accepted-meets, room-alike}
+use Rattle.ledger.proofs.Accepted.{accepted-meets, has-room, room-alike}
 use Rattle.ledger.proofs.Settle.{work-small}
 
 -- A file of no bytes has no records, and any other has a first record and the records of the rest.
@@ -29,11 +32,14 @@ first-record file h =
     let e : recordsBegun (length file) ≡ suc (recordsBegun (length (drop recordBytes file))) = simp length-drop (omega arith) in
     ap (λ (k : ℕ). cut k file) e
 
--- The bytes of one record are one record.
+-- The bytes of one record, or of a part of one, are one record.
+pub begun-record : (bytes : List ℕ) → 0 < length bytes → length bytes ≤ recordBytes → recordsOf bytes ≡ bytes ∷ []
+begun-record bytes some short =
+    first-record bytes some
+    ∙ rw (no-records (drop recordBytes bytes) (simp length-drop (omega arith)), take-all recordBytes bytes short)
+
 pub one-record : (bytes : List ℕ) → length bytes ≡ recordBytes → recordsOf bytes ≡ bytes ∷ []
-one-record bytes h =
-    first-record bytes (omega arith)
-    ∙ rw (no-records (drop recordBytes bytes) (simp length-drop (omega arith)), take-all recordBytes bytes (omega arith))
+one-record bytes h = begun-record bytes (omega arith) (omega arith)
 
 -- A file has a record for every 48 bytes begun.
 cut-length : (k : ℕ) (file : List ℕ) → length (cut k file) ≡ k
@@ -58,6 +64,21 @@ records-join (suc k) file rest e =
     ∙ rw (take-append-le 48 file rest (omega arith), drop-append-le 48 file rest (omega arith)) in
     (joined ∙ rw (on .0, first), rw first (ap suc (on .1)))
 
+-- A file is its first k records, or all of them, and the records after them.
+pub records-split : (k : ℕ) (file : List ℕ) → recordsOf file ≡ recordsOf (take (recordBytes * k) file) ++ recordsOf (drop (recordBytes * k) file)
+records-split k file = by-size (decLe (recordBytes * k) (length file))
+  where
+    by-size : Dec (recordBytes * k ≤ length file) → recordsOf file ≡ recordsOf (take (recordBytes * k) file) ++ recordsOf (drop (recordBytes * k) file)
+    by-size (yes long) =
+        ap recordsOf (sym (take-append-drop (recordBytes * k) file))
+        ∙ records-join k (take (recordBytes * k) file) (drop (recordBytes * k) file) (length-take-le (recordBytes * k) file long) .0
+    by-size (no short) =
+        rw (
+          take-all (recordBytes * k) file (omega arith),
+          no-records (drop (recordBytes * k) file) (simp length-drop (omega arith)),
+          append-nil,
+        )
+
 -- A run that stops at once, with a refusal or at the end.
 abbrev pub stopped : Ledger → ℕ → Run
 stopped l refusal = record { ledger = l; accepted = []; refusal = refusal }
@@ -69,17 +90,13 @@ onFrom done r = record { ledger = r .ledger; accepted = done ++ r .accepted; ref
 abbrev pub acceptedTurn : Ledger → List ℕ → Turn
 acceptedTurn l bytes = record { before = l; bytes = bytes; answer = acceptedOf l bytes }
 
--- what the turn at the head of a run decides
+-- What the turn at the head of a run decides, in any history.
 module _ (l : Ledger) (turn : Turn) (rest : List Turn) where
-  abbrev readOff : Run
-  readOff = record { ledger = ledgerAfter l (leading (turn ∷ rest)); accepted = leading (turn ∷ rest); refusal = ending (turn ∷ rest) }
-
-  goes-on : turn .answer .refusal ≡ 0
-      → readOff ≡ onFrom (turn ∷ []) (record { ledger = ledgerAfter (turn .answer .ledger) (leading rest); accepted = leading rest; refusal = ending rest })
+  pub goes-on : turn .answer .refusal ≡ 0 → readOff l (turn ∷ rest) ≡ onFrom (turn ∷ []) (readOff (turn .answer .ledger) rest)
   unfolding leading ending ledgerAfter
   goes-on e = simp (eq-eqb (turn .answer .refusal) 0 e)
 
-  stops : (turn .answer .refusal ≡ 0 → ⊥) → readOff ≡ stopped l (turn .answer .refusal)
+  pub stops : (turn .answer .refusal ≡ 0 → ⊥) → readOff l (turn ∷ rest) ≡ stopped l (turn .answer .refusal)
   unfolding leading ending ledgerAfter
   stops e = simp (ne-eqb (turn .answer .refusal) 0 e)
 
@@ -105,6 +122,16 @@ run-ends l room = refl
 
 pub on-from : (done : List Turn) (turn : Turn) (r : Run) → onFrom done (onFrom (turn ∷ []) r) ≡ onFrom (done ++ (turn ∷ [])) r
 on-from done turn r = λ i. record { ledger = r .ledger; accepted = sym (append-assoc done (turn ∷ []) (r .accepted)) i; refusal = r .refusal }
+
+-- The run of one record, or of a part of one, has its refusal.
+pub begun-refusal : (l : Ledger) (bytes : List ℕ) (room : ℕ) → 0 < length bytes → length bytes ≤ recordBytes
+    → runOf l (recordsOf bytes) room .refusal ≡ refusalOf l bytes room
+begun-refusal l bytes room some short =
+    rw (begun-record bytes some short)
+    (elim (ℕ-discrete (refusalOf l bytes room) 0) [
+      | yes e ↦ rw (run-goes-on l bytes [] room e, run-ends) (sym e)
+      | no e ↦ rw (run-stops l bytes [] room (refusalOf l bytes room) refl e)
+    ])
 
 -- Turns that are all accepted are all leading ones, and end with 0.
 pub none-refused : (all : List Turn) → ending all ≡ 0 → AllAccepted all × (leading all ≡ all)
@@ -133,36 +160,67 @@ run-takes l bytes rest room none =
       | no e ↦ absurd (e (sym (ap (λ (r : Run). r .refusal) (run-stops l bytes rest room (refusalOf l bytes room) refl e)) ∙ none))
     ]
 
--- Two stretches of records are one, where the first ends without refusal.
-pub run-join : (l : Ledger) (xs ys : List (List ℕ)) (room : ℕ) → runOf l xs room .refusal ≡ 0
-    → runOf l (xs ++ ys) room ≡ onFrom (runOf l xs room .accepted) (runOf (runOf l xs room .ledger) ys (room - recordBytes * length xs))
-run-join l [] ys room none = rw (run-ends l room) (ap (λ (k : ℕ). runOf l ys k) (omega arith))
-run-join l (bytes ∷ xs) ys room none =
-    elim (ℕ-discrete (refusalOf l bytes room) 0) [
+-- Turns that go on after others, in any history: where none of the first is refused they follow, ...
+pub read-join : (l : Ledger) (first more : List Turn) → ending first ≡ 0 → readOff l (first ++ more) ≡ onFrom (leading first) (readOff (ledgerAfter l (leading first)) more)
+unfolding leading ending ledgerAfter
+read-join l [] more none = refl
+read-join l (turn ∷ rest) more none =
+    elim (ℕ-discrete (turn .answer .refusal) 0) [
       | yes e ↦
-          let l′ = acceptedOf l bytes .ledger in
-          let first = run-goes-on l bytes xs room e in
-          let on = run-join l′ xs ys (room - recordBytes) (sym (ap (λ (r : Run). r .refusal) first) ∙ none) in
-          let left : room - recordBytes - recordBytes * length xs ≡ room - recordBytes * suc (length xs) = omega arith in
-          run-goes-on l bytes (xs ++ ys) room e
-          ∙ ap (onFrom (acceptedTurn l bytes ∷ [])) on
-          ∙ rw (first, left)
-      | no e ↦ absurd (e (sym (ap (λ (r : Run). r .refusal) (run-stops l bytes xs room (refusalOf l bytes room) refl e)) ∙ none))
+          let test = eq-eqb (turn .answer .refusal) 0 e in
+          goes-on l turn (rest ++ more) e
+          ∙ ap (onFrom (turn ∷ [])) (read-join (turn .answer .ledger) rest more (simp test at none))
+          ∙ simp test
+      | no e ↦ absurd (e (simp (ne-eqb (turn .answer .refusal) 0 e) at none))
     ]
 
--- Records behind one that is refused change nothing.
-pub run-refused : (l : Ledger) (xs ys : List (List ℕ)) (room : ℕ) → (runOf l xs room .refusal ≡ 0 → ⊥) → runOf l (xs ++ ys) room ≡ runOf l xs room
-run-refused l [] ys room some = absurd (some (ap (λ (r : Run). r .refusal) (run-ends l room)))
-run-refused l (bytes ∷ xs) ys room some =
-    elim (ℕ-discrete (refusalOf l bytes room) 0) [
+-- ... and after a refused one they change nothing.
+pub read-refused : (l : Ledger) (first more : List Turn) → (ending first ≡ 0 → ⊥) → readOff l (first ++ more) ≡ readOff l first
+unfolding ending
+read-refused l [] more some = absurd (some refl)
+read-refused l (turn ∷ rest) more some =
+    elim (ℕ-discrete (turn .answer .refusal) 0) [
       | yes e ↦
-          let first = run-goes-on l bytes xs room e in
-          run-goes-on l bytes (xs ++ ys) room e
-          ∙ ap (onFrom (acceptedTurn l bytes ∷ []))
-          (run-refused (acceptedOf l bytes .ledger) xs ys (room - recordBytes) (λ z. some (ap (λ (r : Run). r .refusal) first ∙ z)))
-          ∙ sym first
-      | no e ↦ run-stops l bytes (xs ++ ys) room (refusalOf l bytes room) refl e ∙ sym (run-stops l bytes xs room (refusalOf l bytes room) refl e)
+          goes-on l turn (rest ++ more) e
+          ∙ ap (onFrom (turn ∷ [])) (read-refused (turn .answer .ledger) rest more (λ z. some (simp (eq-eqb (turn .answer .refusal) 0 e) z)))
+          ∙ sym (goes-on l turn rest e)
+      | no e ↦ stops l turn (rest ++ more) e ∙ sym (stops l turn rest e)
     ]
+
+-- Records that follow others have the room that those leave, and each is taken on the ledger that the one before it left.
+pub in-turn-join : (xs ys : List (List ℕ)) (room : ℕ) → inTurn (xs ++ ys) room ≡ inTurn xs room ++ inTurn ys (room - recordBytes * length xs)
+unfolding inTurn
+in-turn-join [] ys room = ap (inTurn ys) (omega arith)
+in-turn-join (bytes ∷ xs) ys room =
+    let left : room - recordBytes - recordBytes * length xs ≡ room - recordBytes * suc (length xs) = omega arith in
+    ap (λ (offers : List Offer). record { bytes = bytes; room = room } ∷ offers) (in-turn-join xs ys (room - recordBytes) ∙ rw left)
+
+turns-join : (l : Ledger) (first more : List Offer) → turns l (first ++ more) ≡ turns l first ++ turns (ledgerAfter l (turns l first)) more
+unfolding turns ledgerAfter
+turns-join l [] more = refl
+turns-join l (offer ∷ rest) more = ap (λ (all : List Turn). turnOf l offer ∷ all) (turns-join (turnOf l offer .answer .ledger) rest more)
+
+-- Two stretches of records are one, where the first ends without refusal.
+module _ (l : Ledger) (xs ys : List (List ℕ)) (room : ℕ) where
+  abbrev first : List Turn
+  first = turns l (inTurn xs room)
+
+  joined-run : runOf l (xs ++ ys) room ≡ readOff l (first ++ turns (ledgerAfter l first) (inTurn ys (room - recordBytes * length xs)))
+  unfolding runOf
+  joined-run = rw (in-turn-join xs ys room, turns-join l (inTurn xs room) (inTurn ys (room - recordBytes * length xs)))
+
+  pub run-join : runOf l xs room .refusal ≡ 0
+      → runOf l (xs ++ ys) room ≡ onFrom (runOf l xs room .accepted) (runOf (runOf l xs room .ledger) ys (room - recordBytes * length xs))
+  unfolding runOf
+  run-join none =
+      joined-run
+      ∙ read-join l first (turns (ledgerAfter l first) (inTurn ys (room - recordBytes * length xs))) none
+      ∙ rw (none-refused first none .1)
+
+  -- Records after one that is refused change nothing.
+  pub run-refused : (runOf l xs room .refusal ≡ 0 → ⊥) → runOf l (xs ++ ys) room ≡ runOf l xs room
+  unfolding runOf
+  run-refused some = joined-run ∙ read-refused l first (turns (ledgerAfter l first) (inTurn ys (room - recordBytes * length xs))) some
 
 -- n counts the accepted records, which are all that there are, or fewer where one is refused.
 pub record Counts (l : Ledger) (xs : List (List ℕ)) (r : Run) : Type 0 where
@@ -203,6 +261,27 @@ run-whole (suc k) file short l room none =
           omega (arith, ap length first, on, size, length-take recordBytes file, length-drop recordBytes file)
     ]
 
+-- The accepted records of a file are in it, and their output records in the room.
+pub run-within : (k : ℕ) (file : List ℕ) → length file ≤ k → (l : Ledger) (room : ℕ)
+    → let done = recordBytes * length (runOf l (recordsOf file) room .accepted) in (done ≤ length file) × (done ≤ room)
+run-within zero file short l room = rw (no-records file (omega arith), run-ends l room) (omega arith, omega arith)
+run-within (suc k) file short l room =
+    elim (ℕ-discrete (length file) 0) [
+      | yes z ↦ rw (no-records file z, run-ends l room) (omega arith, omega arith)
+      | no z ↦
+          let bytes = take recordBytes file in
+          let rest = recordsOf (drop recordBytes file) in
+          rw (first-record file (omega (arith, z)))
+          (elim (ℕ-discrete (refusalOf l bytes room) 0) [
+            | yes e ↦
+                let size = accepted-meets l bytes room e .size in
+                let on = run-within k (drop recordBytes file) (simp length-drop (omega arith)) (acceptedOf l bytes .ledger) (room - recordBytes) in
+                rw (run-goes-on l bytes rest room e)
+                (omega (arith, on .0, size, length-take recordBytes file, length-drop recordBytes file), omega (arith, on .1, has-room l bytes room e))
+            | no e ↦ rw (run-stops l bytes rest room (refusalOf l bytes room) refl e) (omega arith, omega arith)
+          ])
+    ]
+
 -- With room for every output record, how much room there is changes nothing.
 pub run-roomy : (l : Ledger) (xs : List (List ℕ)) (room more : ℕ) → recordBytes * length xs ≤ room → recordBytes * length xs ≤ more
     → runOf l xs room ≡ runOf l xs more
@@ -237,3 +316,12 @@ pub outputs-join : (done more : List Turn) → outputs (done ++ more) ≡ output
 unfolding outputs
 outputs-join [] more = refl
 outputs-join (turn ∷ rest) more = rw (outputs-join rest more, append-assoc)
+
+-- What the test at the head of a loop over parts of a file says: nothing is refused, and bytes are left.
+pub goes : (refusal at size : ℕ) → (eqb refusal 0 && ltb at size) ≡ true → (refusal ≡ 0) × (at < size)
+goes refusal at size e =
+    let both = both-true (eqb refusal 0) (ltb at size) e in
+    (eqb-true refusal 0 (both .0), ltb-true at size (both .1))
+
+pub no-more : (refusal at size : ℕ) → (eqb refusal 0 && ltb at size) ≡ false → refusal ≡ 0 → size ≤ at
+no-more refusal at size e z = ltb-false at size (simp (eq-eqb refusal 0 z) at e)

@@ -14,7 +14,7 @@ use Rattle.ledger.specs.Take.{acceptedOf, writtenOf}
 use Rattle.run.specs.History.{outputs, workOver, recordsOf, Run, runOf, outcomeOf, outOf}
 use Rattle.ledger.specs.declared.book.Ledger.{Ledger}
 use Rattle.ledger.proofs.Take.{output-length, refused-writes-nothing}
-use Rattle.run.proofs.History.{one-record, stopped, onFrom, acceptedTurn, run-goes-on, run-stops, run-ends}
+use Rattle.run.proofs.History.{one-record, begun-refusal, stopped, onFrom, acceptedTurn, run-goes-on, run-stops, run-ends}
 
 module _ (l : Ledger) (bytes out : List ℕ) where
   abbrev room : ℕ
@@ -37,11 +37,7 @@ module _ (l : Ledger) (bytes out : List ℕ) where
 
     pub one-refusal : outcomeOf oneRun .refusal ≡ refusalOf l bytes room
     unfolding outcomeOf
-    one-refusal =
-        elim (ℕ-discrete (refusalOf l bytes room) 0) [
-          | yes e ↦ ap (λ (r : Run). r .refusal) (one-taken e) ∙ sym e
-          | no e ↦ ap (λ (r : Run). r .refusal) (one-refused e)
-        ]
+    one-refusal = begun-refusal l bytes room (omega arith) (omega arith)
 
     pub one-ledger : refusalOf l bytes room ≡ 0 → outcomeOf oneRun .ledger ≡ acceptedOf l bytes .ledger
     unfolding outcomeOf

@@ -93,10 +93,11 @@ pub record Run : Type 0 where
   pub accepted : List Turn
   pub refusal : ℕ
 
+abbrev pub readOff : Ledger → List Turn → Run
+readOff l all = record { ledger = ledgerAfter l (leading all); accepted = leading all; refusal = ending all }
+
 unfoldable pub runOf : Ledger → List (List ℕ) → (room : ℕ) → Run
-runOf l records room =
-    let all = turns l (inTurn records room) in
-    record { ledger = ledgerAfter l (leading all); accepted = leading all; refusal = ending all }
+runOf l records room = readOff l (turns l (inTurn records room))
 
 -- The output after a run: output record i starts at 48 × (i − 1), and whatever is past the last one keeps its value.
 unfoldable pub outOf : Run → List ℕ → List ℕ

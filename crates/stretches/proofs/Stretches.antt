@@ -18,7 +18,7 @@ use Rattle.ledger.specs.declared.book.Ledger.{Ledger}
 use Rattle.run.specs.History.{workOver, recordsOf, Run, runOf, outOf, outcomeOf, wholeRun}
 use Rattle.stretches.specs.Stretches.{stretchBytes, stretchEnd, stretchRun}
 use Rattle.run.specs.declared.Outcome.{Outcome}
-use Rattle.run.proofs.History.{no-records, records-join, records-count, onFrom, run-ends, run-join, run-refused, run-roomy, Counts, run-counts, run-most, outputs-length, over-most, work-join}
+use Rattle.run.proofs.History.{no-records, records-split, records-count, onFrom, run-ends, run-join, run-refused, run-roomy, Counts, run-counts, run-most, outputs-length, over-most, work-join}
 
 -- A stretch of a file from a place to its end: 32 records, or what is left.
 pub record Stretch (file : List ℕ) (at end : ℕ) : Type 0 where
@@ -57,29 +57,9 @@ stretch-is file at h e = rw e (by-size (ltb (length file - at) stretchBytes) ref
     by-size true less = the-rest file at h (ltb-true (length file - at) stretchBytes less)
     by-size false more = a-stretch file at (omega (arith, ltb-false (length file - at) stretchBytes more))
 
--- What the test at the head of a loop over stretches says: nothing is refused, and bytes are left.
-pub goes : (refusal at size : ℕ) → (eqb refusal 0 && ltb at size) ≡ true → (refusal ≡ 0) × (at < size)
-goes refusal at size e =
-    let both = both-true (eqb refusal 0) (ltb at size) e in
-    (eqb-true refusal 0 (both .0), ltb-true at size (both .1))
-
-pub no-more : (refusal at size : ℕ) → (eqb refusal 0 && ltb at size) ≡ false → refusal ≡ 0 → size ≤ at
-no-more refusal at size e z = ltb-false at size (simp (eq-eqb refusal 0 z) at e)
-
 -- The first stretch of a file is 32 records, or all of them.
 stretch-records : (file : List ℕ) → recordsOf file ≡ recordsOf (take stretchBytes file) ++ recordsOf (drop stretchBytes file)
-stretch-records file = by-size (decLe stretchBytes (length file))
-  where
-    by-size : Dec (stretchBytes ≤ length file) → recordsOf file ≡ recordsOf (take stretchBytes file) ++ recordsOf (drop stretchBytes file)
-    by-size (yes long) =
-        ap recordsOf (sym (take-append-drop stretchBytes file))
-        ∙ records-join 32 (take stretchBytes file) (drop stretchBytes file) (length-take-le stretchBytes file long) .0
-    by-size (no short) =
-        rw (
-          take-all stretchBytes file (omega arith),
-          no-records (drop stretchBytes file) (simp length-drop (omega arith)),
-          append-nil,
-        )
+stretch-records file = records-split 32 file
 
 -- The run of what is left of a file, with room for every output record.
 abbrev pub restRun : Ledger → List ℕ → Run

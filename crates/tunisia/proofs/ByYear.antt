@@ -9,8 +9,8 @@ use borrow.Author.Tests.{ne-eqb, le-ltb, eqb-true}
 use lib.Dec.{eqb, ltb}
 use lib.ListN.{length, take, drop, length-drop, length-take}
 use lib.Seq.{getD-take, drop-drop, take-all}
-use Rattle.numbers.specs.Fault.{Fault, firstOf, ahead}
-use Rattle.numbers.proofs.Fault.{onward, parted, first-up-to, first-over, inserted-first}
+use Rattle.numbers.specs.Fault.{Fault}
+use Rattle.numbers.proofs.Fault.{inserted-turns}
 use Rattle.waste.specs.Kind.{yearly, isMonthly}
 use Rattle.record.specs.Fields.{recordBytes, kindOf}
 use Rattle.refusal.specs.Refusal.{faultsOf}
@@ -20,34 +20,19 @@ use Rattle.ledger.specs.Take.{acceptedOf, refusedOf}
 use Rattle.ledger.specs.declared.book.Ledger.{Ledger}
 use Rattle.ledger.proofs.Accepted.{accepted-meets, room-alike}
 use Rattle.run.specs.History.{Turn, leading, ending, recordsOf, Run, runOf, wholeRun}
-use Rattle.run.proofs.History.{no-records, first-record, acceptedTurn, run-goes-on, run-stops, run-ends}
+use Rattle.run.proofs.History.{no-records, first-record, begun-record, begun-refusal, acceptedTurn, run-goes-on, run-stops, run-ends}
 use Rattle.tunisia.specs.Years.{refusalByYear, turnByYear, turnsByYear, acceptedYears, refusalAfter, yearsFrom, yearsOf}
 use Rattle.reductions.specs.Year.{stretchOf, sumsOf}
 use Rattle.tunisia.specs.Walk.{noneWalked, takenOver, asYearly}
 use Rattle.tunisia.specs.declared.accepted.YearsTaken.{YearsTaken}
-
--- A refusal in this mode, from the tests before 6, those from 6 on, and the run's.
-combined : (month : Bool) (early late q : ℕ) → early ≤ 5 → (eqb late 0 || ltb 5 late) ≡ true → ((early ≡ 0 → ⊥) → q ≡ early) → (early ≡ 0 → q ≡ late)
-    → cond (eqb early 0) (cond month 23 late) early ≡ asYearly q month
-unfolding asYearly
-combined month zero late q small large some none = rw (none refl, large) (by-month month)
-  where
-    by-month : (m : Bool) → cond m 23 late ≡ cond (m && true) 23 late
-    by-month true = refl
-    by-month false = refl
-combined month (suc early) late q small large some none =
-    rw (some (λ z. omega arith)) (simp (ne-eqb (suc early) 0 (λ z. omega arith), le-ltb 5 (suc early) small, and-false))
 
 module _ (l : Ledger) (bytes : List ℕ) where
   abbrev faults : List Fault
   faults = faultsOf (sound l) (l .n) (l .kind) (l .climate) (l .year) bytes recordBytes
 
   pub refused-by-year : refusalByYear l bytes ≡ asYearly (refusalOf l bytes recordBytes) (isMonthly (kindOf bytes))
-  unfolding refusalByYear refusalOf faultsOf
-  refused-by-year =
-      let p = parted 6 faults refl in
-      inserted-first 6 23 (isMonthly (kindOf bytes)) faults refl
-      ∙ combined (isMonthly (kindOf bytes)) (firstOf (ahead 6 faults)) (firstOf (onward 6 faults)) (firstOf faults) (first-up-to 5 (ahead 6 faults) refl) (first-over 5 (onward 6 faults) refl) (p .0) (p .1)
+  unfolding refusalByYear refusalOf faultsOf asYearly
+  refused-by-year = inserted-turns 6 23 5 (isMonthly (kindOf bytes)) faults refl refl refl
 
 -- A yearly record is refused as in a run; a refused one is refused in this mode too.
 as-yearly-none : (q : ℕ) (month : Bool) → month ≡ false → asYearly q month ≡ q
@@ -192,14 +177,10 @@ pub first-run : (file : List ℕ) → 0 < length file → wholeRun (take recordB
 unfolding wholeRun
 first-run file some =
     let bytes = take recordBytes file in
-    let one : recordsOf bytes ≡ bytes ∷ []
-    = first-record bytes (omega (arith, length-take recordBytes file))
-    ∙ rw (take-all recordBytes bytes (omega (arith, length-take recordBytes file)), no-records (drop recordBytes bytes) (simp length-drop (omega (arith, length-take recordBytes file)))) in
-    rw one
-    (elim (ℕ-discrete (refusalOf fresh bytes recordBytes) 0) [
-      | yes e ↦ rw (run-goes-on fresh bytes [] recordBytes e, run-ends) (sym e)
-      | no e ↦ rw (run-stops fresh bytes [] recordBytes (refusalOf fresh bytes recordBytes) refl e)
-    ])
+    let long = length-take recordBytes file in
+    let one : recordsOf bytes ≡ bytes ∷ [] = begun-record bytes (omega (arith, long)) (omega (arith, long)) in
+    let room : recordBytes * length (recordsOf bytes) ≡ recordBytes = rw one in
+    ap (λ (k : ℕ). runOf fresh (recordsOf bytes) k .refusal) room ∙ begun-refusal fresh bytes recordBytes (omega (arith, long)) (omega (arith, long))
 
 -- What the accepted years of a file are to their caller: none where the first record is monthly,
 pub months-taken : (first last : ℕ) (file : List ℕ) → isMonthly (kindOf file) ≡ true

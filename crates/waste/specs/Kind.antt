@@ -12,5 +12,8 @@ monthly = 2
 abbrev pub isKind : ℕ → Bool
 isKind kind = eqb kind yearly || eqb kind monthly
 
+abbrev pub isYearly : ℕ → Bool
+isYearly kind = eqb kind yearly
+
 abbrev pub isMonthly : ℕ → Bool
 isMonthly kind = eqb kind monthly

@@ -6,7 +6,8 @@ use native.Mathlib.Omega.{arith}
 use borrow.Author.Needs.{needs}
 use lib.ListN.{length, drop}
 use Rattle.stretches.specs.Stretches.{stretchBytes}
-use Rattle.stretches.proofs.Stretches.{stretch-is, goes, no-more, MidWhole, whole-starts, next-worked, whole-goes-on, whole-ends, output-size}
+use Rattle.run.proofs.History.{goes, no-more}
+use Rattle.stretches.proofs.Stretches.{stretch-is, MidWhole, whole-starts, next-worked, whole-goes-on, whole-ends, output-size}
 use Rattle.stretches.proofs.whole_run.Statement.{statement}
 use Rattle.stretches.proofs.whole_run.Tie as tie
 

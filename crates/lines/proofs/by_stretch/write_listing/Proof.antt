@@ -6,7 +6,8 @@ use borrow.Author.Needs.{needs}
 use denote.Ref.{now}
 use lib.ListN.{length}
 use Rattle.stretches.specs.Stretches.{stretchBytes}
-use Rattle.stretches.proofs.Stretches.{stretch-is, goes, no-more}
+use Rattle.run.proofs.History.{goes, no-more}
+use Rattle.stretches.proofs.Stretches.{stretch-is}
 use Rattle.lines.proofs.MidListing.{MidListing, listing-starts, listing-ends, output-stays, lines-fit, stretch-on}
 use Rattle.lines.proofs.by_stretch.write_listing.Statement.{statement}
 use Rattle.lines.proofs.by_stretch.write_listing.Tie as tie

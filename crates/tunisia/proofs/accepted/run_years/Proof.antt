@@ -5,7 +5,8 @@ use native.Mathlib.Omega.{arith}
 use borrow.Author.Needs.{needs}
 use lib.ListN.{length, take, drop, length-take}
 use Rattle.stretches.specs.Stretches.{stretchBytes}
-use Rattle.stretches.proofs.Stretches.{Stretch, stretch-is, goes, no-more}
+use Rattle.run.proofs.History.{goes, no-more}
+use Rattle.stretches.proofs.Stretches.{Stretch, stretch-is}
 use Rattle.tunisia.proofs.MidYears.{MidYears, years-start, output-stays, all-ready, years-go-on, walk-ends}
 use Rattle.tunisia.proofs.accepted.run_years.Statement.{statement}
 use Rattle.tunisia.proofs.accepted.run_years.Tie as tie
