@@ -2,8 +2,8 @@
  * with a dry matter of sludge; or puts these records right as if they were shuffled; or works the reduction of the first years
  * out, or the columns of the first records; or shares a total by the first of 400 samples; or works a correction factor out; or
  * looks an entry of the decay table up; or compares what all peers write, and fails where one refuses a record, a stretch,
- * columns or a total, library and reference differ, figures by columns are not those of a run, two put a file right, share a
- * total or look an entry up unlike, or a factor is not as expected.
+ * columns or a total, library and reference differ, figures by columns are not those of a run, yearly totals differ by runs and
+ * by steps, two put a file right, share a total or look an entry up unlike, or a factor is not as expected.
  * Usage: bench PEER COUNT, bench ENTRY COUNT, bench REPAIRER COUNT, bench REDUCER COUNT, bench FILLER COUNT, bench SHARER COUNT,
  * bench WORKER FACTOR or bench FINDER RATE, with the number in four digits; bench compare */
 #include "columns.h"
@@ -16,15 +16,16 @@
 #include "reference.h"
 #include "repaired.h"
 #include "sorted.h"
+#include "yearly.h"
 
 #include <inttypes.h>
 #include <stdio.h>
 #include <stdlib.h>
 #include <string.h>
 
-enum { RECORDS = 1200, BYTES = 48, PEERS = 5, ENTRIES = 5, EQUATION = 4, MOST_BY_EQUATION = 120 };
+enum { RECORDS = 1200, BYTES = 48, PEERS = 5, ENTRIES = 8, EQUATION = 4, MOST_BY_EQUATION = 120 };
 enum { SAMPLES = 400, TOTAL = 987654321, SHARERS = 3 };
-enum { WORKED = 2, WORKERS = 3, FINDERS = 4, REPAIRERS = 3, REDUCERS = 3, FILLERS = 3, COLUMNS = 9 };
+enum { WORKED = 2, WORKERS = 3, FINDERS = 4, REPAIRERS = 3, REDUCERS = 3, FILLERS = 3, COLUMNS = 9, ADDERS = 4 };
 
 static uint8_t file[RECORDS * BYTES], out[PEERS][RECORDS * BYTES], text[90 * (RECORDS + 1)];
 static uint8_t samples[SAMPLES * LANDFILL_SAMPLE_BYTES], report[REPAIRERS][RECORDS];
@@ -90,15 +91,68 @@ static uint8_t by_reference(const uint8_t *records, size_t records_len, uint8_t 
     return reference_run(ledger, sizeof ledger, records, records_len, into, into_len, accepted, &work);
 }
 
-/* The records one by one, from an image to an image. */
-static uint8_t by_take(const uint8_t *records, size_t records_len, uint8_t *into, size_t into_len, uint64_t *accepted)
+/* The records one by one, from an image to an image, with yearly totals or without. */
+static inline uint8_t one_by_one(uint8_t *of_years, const uint8_t *records, size_t records_len, uint8_t *into, size_t into_len,
+                                 uint64_t *accepted)
 {
     uint8_t ledger[LANDFILL_LEDGER_BYTES], answer[LANDFILL_ANSWER_BYTES], refusal = 0;
     landfill_fresh(ledger, sizeof ledger);
-    for (*accepted = 0; refusal == 0 && *accepted < records_len / BYTES; *accepted += refusal == 0)
-        refusal = landfill_take(ledger, sizeof ledger, records + BYTES * *accepted, BYTES, into + BYTES * *accepted,
-                                into_len - BYTES * *accepted, answer, sizeof answer);
+    for (*accepted = 0; refusal == 0 && *accepted < records_len / BYTES; *accepted += refusal == 0) {
+        size_t done = BYTES * *accepted;
+        if (of_years == NULL)
+            refusal = landfill_take(ledger, sizeof ledger, records + done, BYTES, into + done, into_len - done, answer,
+                                    sizeof answer);
+        else
+            refusal = landfill_take_month(ledger, sizeof ledger, of_years, LANDFILL_YEARLY_TOTALS_BYTES, records + done, BYTES,
+                                          into + done, into_len - done, answer, sizeof answer);
+    }
     return refusal;
+}
+
+static uint8_t by_take(const uint8_t *records, size_t records_len, uint8_t *into, size_t into_len, uint64_t *accepted)
+{
+    return one_by_one(NULL, records, records_len, into, into_len, accepted);
+}
+
+/* Yearly totals of each adder; a run fills them from zeros. */
+static uint8_t totals[ADDERS][LANDFILL_YEARLY_TOTALS_BYTES];
+
+typedef uint8_t months_run(uint8_t *ledger, size_t ledger_len, uint8_t *yearly_totals, size_t yearly_totals_len,
+                           const uint8_t *records, size_t records_len, uint8_t *out, size_t out_len, uint64_t *accepted,
+                           uint64_t *work);
+
+static inline uint8_t add_up(months_run *run, uint8_t *of_years, const uint8_t *records, size_t records_len, uint8_t *into,
+                             size_t into_len, uint64_t *accepted)
+{
+    uint8_t ledger[LANDFILL_LEDGER_BYTES];
+    uint64_t work;
+    landfill_fresh(ledger, sizeof ledger);
+    memset(of_years, 0, LANDFILL_YEARLY_TOTALS_BYTES);
+    return run(ledger, sizeof ledger, of_years, LANDFILL_YEARLY_TOTALS_BYTES, records, records_len, into, into_len, accepted,
+               &work);
+}
+
+static uint8_t by_months(const uint8_t *records, size_t records_len, uint8_t *into, size_t into_len, uint64_t *accepted)
+{
+    return add_up(landfill_run_months, totals[0], records, records_len, into, into_len, accepted);
+}
+
+static uint8_t by_take_month(const uint8_t *records, size_t records_len, uint8_t *into, size_t into_len, uint64_t *accepted)
+{
+    memset(totals[1], 0, sizeof totals[1]);
+    return one_by_one(totals[1], records, records_len, into, into_len, accepted);
+}
+
+static uint8_t by_reference_months(const uint8_t *records, size_t records_len, uint8_t *into, size_t into_len,
+                                   uint64_t *accepted)
+{
+    return add_up(reference_run_months, totals[2], records, records_len, into, into_len, accepted);
+}
+
+static uint8_t by_yearly_exp(const uint8_t *records, size_t records_len, uint8_t *into, size_t into_len, uint64_t *accepted)
+{
+    memset(totals[3], 0, sizeof totals[3]);
+    return yearly_by_exp(records, records_len, into, into_len, accepted, totals[3]);
 }
 
 /* Every line of a listing ends with a byte 10. */
@@ -121,7 +175,13 @@ static const struct {
                       {"listing", by_listing, LANDFILL_MONTHLY, 0},
                       {"run-by-year", by_library, LANDFILL_YEARLY, 0},
                       {"take-by-year", by_take, LANDFILL_YEARLY, 0},
-                      {"run-with-sludge", by_library, LANDFILL_MONTHLY, 1}};
+                      {"run-with-sludge", by_library, LANDFILL_MONTHLY, 1},
+                      {"run-months", by_months, LANDFILL_MONTHLY, 0},
+                      {"take-month", by_take_month, LANDFILL_MONTHLY, 0},
+                      {"yearly-by-exp", by_yearly_exp, LANDFILL_MONTHLY, 0}};
+
+/* Each fills the totals of its place. */
+static doubles_run *const adders[ADDERS] = {by_months, by_take_month, by_reference_months, by_yearly_exp};
 
 static const struct {
     const char *name;
@@ -377,6 +437,24 @@ static int all_fill_alike(int measured)
     return memcmp(&filled[0], &filled[2], sizeof filled[0]) == 0;
 }
 
+/* Prints how far the peer's figures of years are from the library's. Tells whether steps and the reference have the totals that
+ * a run has. */
+static int all_add_alike(int measured)
+{
+    struct distance apart = {0};
+    uint64_t accepted;
+    change_records(LANDFILL_MONTHLY, measured);
+    for (int it = 0; it < ADDERS; it++)
+        if (adders[it](file, sizeof file, out[it], sizeof out[it], &accepted) != 0 || accepted != RECORDS) return 0;
+    for (unsigned year = 1; year <= LANDFILL_YEARS; year++) {
+        struct landfill_year one = landfill_get_year(totals[0], year), other = landfill_get_year(totals[3], year);
+        widen(&apart, (int64_t)(one.figure - other.figure), one.bound);
+    }
+    print_distance("exp-once, yearly totals", measured, LANDFILL_YEARS, memcmp(totals[0], totals[3], sizeof totals[0]) == 0,
+                   &apart);
+    return memcmp(totals[0], totals[1], sizeof totals[0]) == 0 && memcmp(totals[0], totals[2], sizeof totals[0]) == 0;
+}
+
 int main(int words, char **word)
 {
     uint32_t masses[LANDFILL_TYPES];
@@ -389,7 +467,8 @@ int main(int words, char **word)
         int alike = all_run_alike(0) && all_run_alike(1) && all_share_alike(3) && all_share_alike(SAMPLES);
         alike = alike && all_work_alike() && all_find_alike() && all_repair_alike();
         alike = alike && all_reduce_alike(0) && all_reduce_alike(1);
-        return alike && all_fill_alike(0) && all_fill_alike(1) ? 0 : 1;
+        alike = alike && all_fill_alike(0) && all_fill_alike(1);
+        return alike && all_add_alike(0) && all_add_alike(1) ? 0 : 1;
     }
     for (int entry = 0; words == 3 && entry < ENTRIES; entry++)
         if (strcmp(word[1], entries[entry].name) == 0) return enters(entry, strtoul(word[2], NULL, 10)) ? 0 : 1;

@@ -1,8 +1,9 @@
 #!/usr/bin/env bash
-# Measures landfill_run beside four peers in C, landfill_repair, landfill_tunisia, landfill_columns, landfill_masses and
-# landfill_entry beside one and landfill_factor beside two, and prints the tables of docs/PERFORMANCE.md: instructions for each
-# record, ratios, instructions for each record put right, for each year of a stretch, for each record by columns, for one call by
-# samples, by uncertainties and for one look-up, how far the figures are apart, and the library's size.
+# Measures landfill_run beside four peers in C, landfill_repair, landfill_tunisia, landfill_columns, landfill_run_months,
+# landfill_masses and landfill_entry beside one and landfill_factor beside two, and prints the tables of docs/PERFORMANCE.md:
+# instructions for each record, ratios, instructions for each record put right, for each year of a stretch, for each record by
+# columns, for each month with yearly totals, for one call by samples, by uncertainties and for one look-up, how far the figures are
+# apart, and the library's size.
 # Usage: bash bench/run.sh [--library FILE | --standin]
 set -eu
 cd "$(dirname "$0")/.."
@@ -33,7 +34,7 @@ else stop "neither perf nor valgrind counts instructions here"
 fi
 
 build bench -Ibench bench/*.c tests/c/inputs.c tests/c/reference.c tests/c/entries.c tests/c/reference_years.c \
-    tests/c/reference_columns.c "$library"
+    tests/c/reference_columns.c tests/c/reference_totals.c "$library"
 run "$target/bench" compare >"$target/compare" || stop "something is refused, or two answers differ: see tests/c/run.sh"
 
 # Lines of PEER RECORDS INSTRUCTIONS, the program's cost with no records taken off.
@@ -82,12 +83,15 @@ awk -v peers="$peers" '
 over_none() { echo "$(($($counter "$target/bench" "$1" "$2") - $($counter "$target/bench" "$1" 0000)))"; }
 each() { echo "$(($(over_none "$1" "$2") / 10#$2))"; }
 
-# Other entries of the library on the same 1200 records, two on these as years, and a run where sludge has a dry matter.
+# Other entries of the library on the same 1200 records, two on these as years, a run where sludge has a dry matter, and a run and
+# steps with yearly totals.
 by_entry() { echo "| $1 | $(each "$2" 1200) |"; }
 printf '\nInstructions for each of 1200 records by other entries:\n\n| Entry | Instructions |\n|---|---|\n'
 for entry in take listing; do by_entry "\`landfill_$entry\`" $entry; done
 for entry in run take; do by_entry "\`landfill_$entry\` by year" $entry-by-year; done
 by_entry '`landfill_run` with measured sludge' run-with-sludge
+by_entry '`landfill_run_months`' run-months
+by_entry '`landfill_take_month`' take-month
 
 # What a call does once, such as testing the order, is in it.
 printf '\nInstructions for each record put right:\n\n| Records | library | plain C |\n|---|---|---|\n'
@@ -100,6 +104,10 @@ for count in $counts; do echo "| $((10#$count)) | $(each tunisia $count) | $(eac
 # The call tests all records and columns before it fills them.
 printf '\nInstructions for each record by columns:\n\n| Records | library | doubles |\n|---|---|---|\n'
 for count in $counts; do echo "| $((10#$count)) | $(each columns $count) | $(each columns-by-exp $count) |"; done
+
+# The doubles run the file first, and then add its output records.
+printf '\nInstructions for each month with yearly totals:\n\n| Months | library | doubles |\n|---|---|---|\n'
+for count in $counts; do echo "| $((10#$count)) | $(each run-months $count) | $(each yearly-by-exp $count) |"; done
 
 printf '\nInstructions for one call by samples:\n\n| Samples | library | plain C |\n|---|---|---|\n'
 for count in 0003 0400; do echo "| $((10#$count)) | $(over_none masses $count) | $(over_none sorted $count) |"; done

@@ -76,6 +76,16 @@
  * pointer and then its number of places, so the columns may lie anywhere and need not have the same length.
  * landfill_columns_in takes them as one block, one column after the other.
  *
+ * Yearly totals. Reports go by year, and a monthly ledger takes a record a month. landfill_take_month and landfill_run_months
+ * take monthly records as landfill_take and landfill_run do, and also keep the totals of each year in a buffer of the caller's.
+ * The buffer has 100 slots of 32 bytes. Year y, counted from the ledger's first month, has slot y - 1: the year's number, the
+ * months counted so far, and the x0, the figures and the bounds of these months added. landfill_get_year reads a slot. Start with
+ * a fresh ledger and 3200 zeros, and keep the buffer together with the ledger's image.
+ * All records of a site go through these two entries. A month that landfill_take or landfill_run takes is missing in its year:
+ * - where months 1 to 5 went through landfill_take, month 6 is refused here with 32;
+ * - where months 1 to 5 went through these entries and 6 to 12 through landfill_take, month 13 is taken here, since it begins a slot
+ *   of its own. Slot 0 keeps five months, and nothing refuses it. So look at the months of a year before you report it.
+ *
  * Tonnes. A mass is a whole number of kilograms. Tonnes in a float times 1000 often are not: 2.01 * 1000.0 is
  * 2009.9999999999998. Of the 100,000 values 0.01, 0.02, .. 1000.00 t, 1175 come out so (1.2 %), and landfill_cell refuses
  * them with 11. Round first:
@@ -104,11 +114,17 @@ enum {
     LANDFILL_LINE_BYTES = 90,    /* the longest line of the listing, its byte 10 included */
     LANDFILL_RECORDS = 1200,     /* the most records that a ledger takes */
     LANDFILL_LISTING_BYTES = 108090, /* room for the listing of any file: 90 for each of 1201 lines */
+    LANDFILL_YEARS = 100,        /* the slots of a buffer of yearly totals */
+    LANDFILL_YEAR_BYTES = 32,    /* one slot of it */
+    LANDFILL_YEARLY_TOTALS_BYTES = 3200, /* a buffer of yearly totals */
     LANDFILL_MASS_LIMIT = 1000000000 /* the largest mass of one type in one record, and the largest total to share, in kg */
 };
 
 /* The most grams CO2e of electricity, and the most of fuel, that landfill_tunisia takes for a year: 10^15. */
 #define LANDFILL_GRAMS_LIMIT UINT64_C(1000000000000000)
+
+/* The largest sum in a slot of yearly totals to which a month is added: 10^19. */
+#define LANDFILL_SUM_LIMIT UINT64_C(10000000000000000000)
 
 /* Kinds. */
 enum { LANDFILL_YEARLY = 1, LANDFILL_MONTHLY = 2 };
@@ -184,6 +200,15 @@ enum {
     LANDFILL_ANSWER_AT_BOUND = 80    /* 8 bytes: bound, in grams CO2e */
 };
 
+/* One slot of yearly totals, 32 bytes: where each field starts. Slot k, from 0 on, starts at byte 32 * k of its buffer. */
+enum {
+    LANDFILL_YEAR_AT_NUMBER = 0,  /* 4 bytes: the year's number, its slot plus 1 */
+    LANDFILL_YEAR_AT_MONTHS = 4,  /* 4 bytes: the months counted, 1 to 12 */
+    LANDFILL_YEAR_AT_X0 = 8,      /* 8 bytes: x0 of these months added, in mg */
+    LANDFILL_YEAR_AT_FIGURE = 16, /* 8 bytes: their figures added, in grams CO2e */
+    LANDFILL_YEAR_AT_BOUND = 24   /* 8 bytes: their bounds added, in grams CO2e */
+};
+
 /* A ledger image, 200 bytes, is a site's ledger as it can be kept in a file between calls: where each field starts. */
 enum {
     LANDFILL_LEDGER_AT_N = 0,         /* 2 bytes: n, the number of accepted records */
@@ -228,8 +253,8 @@ enum {
 /* Refusals. The first that holds is the answer, and they are tested in this order: for a record 1, 2, 3, 4, 5, 6, 7, 8, 17, 9;
  * for a total with its samples 14, 15, 16; for uncertainties 18, 19; for a file to repair 20, 21, 22. For landfill_tunisia they
  * are 1, 4, 5, 23, 6, 7, 8, 9 for a record, where 17 cannot come since it is for months, and 24, 25 for a stretch of years. For
- * landfill_columns they are those of a record, but for 2 and 3, which cannot come, and then 26. The numbers may come to have
- * gaps. */
+ * landfill_columns they are those of a record, but for 2 and 3, which cannot come, and then 26. For landfill_take_month and
+ * landfill_run_months they are 28, 1, 2, 3, 4, 5, 27, 6, 7, 8, 17, 9, 32. The numbers have gaps. */
 enum {
     LANDFILL_ACCEPTED = 0,           /* not refused */
     LANDFILL_NOT_48_BYTES = 1,       /* the record is not 48 bytes */
@@ -257,7 +282,10 @@ enum {
     LANDFILL_NOT_YEARLY = 23,        /* a monthly record, for landfill_tunisia */
     LANDFILL_NOT_A_STRETCH = 24,     /* there are no years, not all are accepted, or not each has one entry of each kind of grams */
     LANDFILL_GRAMS_TOO_LARGE = 25,   /* an entry of electricity or fuel is over 10^15 grams */
-    LANDFILL_COLUMN_TOO_SHORT = 26   /* a column has fewer places than the file has records */
+    LANDFILL_COLUMN_TOO_SHORT = 26,  /* a column has fewer places than the file has records */
+    LANDFILL_NOT_MONTHLY = 27,       /* a yearly record, for landfill_take_month and landfill_run_months */
+    LANDFILL_NOT_YEARLY_TOTALS = 28, /* the buffer of yearly totals is not 3200 bytes */
+    LANDFILL_YEAR_DIFFERS = 32       /* the slot of the record's year is damaged, or does not go with the ledger */
 };
 
 /* Makes the image a fresh ledger, all zero, and answers 0.
@@ -386,6 +414,32 @@ uint8_t landfill_columns(const uint8_t *file, size_t file_len, uint64_t *wood, s
                          uint64_t *domestic_sludge, size_t domestic_sludge_len, uint64_t *paper_sludge,
                          size_t paper_sludge_len, uint64_t *figures, size_t figures_len,
                          uint64_t stocks[LANDFILL_TYPES]);
+
+/* Takes one monthly record into the ledger as landfill_take does, adds it to its year, and answers the refusal, 0 if none.
+ * yearly_totals is the buffer of 3200 bytes that was kept with the ledger, all zero beside a fresh one. The record of period n has
+ * slot (n - 1) / 12, rounded down and counted from 0. Accepted: the slot's year becomes the slot plus 1, its months grow by one, and
+ * the record's x0, figure and bound are added to its sums; no other byte of yearly_totals is written. Image, out and answer are
+ * written as landfill_take writes them.
+ * Answers 28 when yearly_totals_len is not 3200, before all that landfill_take tests; 27 for a yearly record, after 5 and before 6;
+ * and 32 after all that landfill_take tests, where one of these holds in the record's slot:
+ * - its months are not the remainder of n - 1 by 12;
+ * - one of its three sums is over 10^19;
+ * - its months are above 0, and its year is not the slot plus 1;
+ * - its months are 0, and any of its 32 bytes is not 0.
+ * The other 99 slots are not looked at. Refused: image, yearly_totals and out stay as they are; the first 88 bytes of answer become
+ * zero, or it stays where it has fewer. */
+uint8_t landfill_take_month(uint8_t *ledger, size_t ledger_len, uint8_t *yearly_totals, size_t yearly_totals_len,
+                            const uint8_t *record, size_t record_len, uint8_t *out, size_t out_len, uint8_t *answer,
+                            size_t answer_len);
+
+/* Takes monthly records one after another, each as landfill_take_month takes it, stops at the first that is refused, and answers
+ * its refusal, 0 if none. *accepted, *work, the image and out become what landfill_run makes of the records that are taken;
+ * yearly_totals has each of them in its year's slot. Bytes at the end that make no whole record are refused with 1.
+ * A buffer that is not 3200 bytes is refused with 28 also where records_len is 0, since it belongs to the call and not to a record.
+ * With records_len 0 and 3200 bytes the answer is 0, whatever the image and the buffer hold. */
+uint8_t landfill_run_months(uint8_t *ledger, size_t ledger_len, uint8_t *yearly_totals, size_t yearly_totals_len,
+                            const uint8_t *records, size_t records_len, uint8_t *out, size_t out_len,
+                            uint64_t *accepted, uint64_t *work);
 
 /* Helpers, compiled into the caller. They take buffers byte by byte, so that byte order and alignment do not matter. */
 
@@ -551,6 +605,29 @@ static inline uint64_t landfill_get_released_so_far(const uint8_t *ledger, unsig
     return landfill_get(ledger + LANDFILL_LEDGER_AT_RELEASED + 8 * (type - 1), 8);
 }
 
+/* One year of a buffer of yearly totals. */
+struct landfill_year {
+    uint32_t number, months;
+    uint64_t x0;            /* mg */
+    uint64_t figure, bound; /* grams CO2e */
+};
+
+/* Reads a year, 1 to 100, from the 3200 bytes of a buffer of yearly totals. A year without months has number 0 too, and so has a
+ * number that is no year. It looks at nothing else: a year that is reported whole has 12 months. */
+static inline struct landfill_year landfill_get_year(const uint8_t *yearly_totals, unsigned year)
+{
+    struct landfill_year fields = {0, 0, 0, 0, 0};
+    const uint8_t *slot;
+    if (year < 1 || year > LANDFILL_YEARS) return fields;
+    slot = yearly_totals + LANDFILL_YEAR_BYTES * (year - 1);
+    fields.number = (uint32_t)landfill_get(slot + LANDFILL_YEAR_AT_NUMBER, 4);
+    fields.months = (uint32_t)landfill_get(slot + LANDFILL_YEAR_AT_MONTHS, 4);
+    fields.x0 = landfill_get(slot + LANDFILL_YEAR_AT_X0, 8);
+    fields.figure = landfill_get(slot + LANDFILL_YEAR_AT_FIGURE, 8);
+    fields.bound = landfill_get(slot + LANDFILL_YEAR_AT_BOUND, 8);
+    return fields;
+}
+
 /* Tonnes as a whole number of kilograms, for landfill_cell: the nearest, half a kilogram going up. What can be no mass
  * (below 0, 2,000,000 t or more, not a number) comes back times 1000 as it is, for landfill_cell to refuse. */
 static inline double landfill_kg(double tonnes)
@@ -594,6 +671,9 @@ static inline const char *landfill_refusal_text(unsigned refusal)
         return "There are no years, they are not all accepted, or they do not have one entry each of electricity and of fuel.";
     case LANDFILL_GRAMS_TOO_LARGE: return "An entry of electricity or fuel is over 1,000,000,000,000,000 grams.";
     case LANDFILL_COLUMN_TOO_SHORT: return "A column has fewer places than the file has records.";
+    case LANDFILL_NOT_MONTHLY: return "The record is yearly, where only monthly ones are taken.";
+    case LANDFILL_NOT_YEARLY_TOTALS: return "The buffer of yearly totals is not 3200 bytes long.";
+    case LANDFILL_YEAR_DIFFERS: return "The totals of the record's year are damaged, or do not go with the ledger.";
     default: return "No refusal has this number.";
     }
 }

@@ -11,6 +11,7 @@ from typing import NamedTuple
 import columns
 import reference
 import tunisia
+import yearly_totals
 from reference import Ledger, Year, number
 
 LONGEST = 65536  # bytes of a payload, and of an output buffer
@@ -18,6 +19,7 @@ IMAGE = 200  # bytes of a ledger image
 HEAD = 22  # bytes before the grams of a stretch
 MOST_ENTRIES = 1300  # of electricity, of fuel, and of a column
 COLUMNS = 9  # eight of releases, and one of figures
+TOTALS_HEAD = 4  # bytes before those of a buffer of totals: its length, and how many follow
 UNTOUCHED = number(b"\xa5" * 8, 0, 8)  # a place of a column that keeps its value
 
 
@@ -49,15 +51,29 @@ def decay_line(payload):
 
 
 def step_line(payload):
-    lent = b"\xa5" * number(payload, 200, 2)
-    answer = reference.step(read_image(payload), payload[202:], lent)
+    return step_words(reference.step(read_image(payload), payload[202:], step_room(payload)))
+
+
+def step_room(payload):
+    """The output buffer that a step is lent."""
+    return b"\xa5" * number(payload, 200, 2)
+
+
+def step_words(answer):
     numbers = [answer.refusal, *fields(answer.ledger), *answer.releases, answer.x0, answer.figure, answer.bound]
     return spaced(numbers) + " " + hexed(answer.output)
 
 
 def run_line(payload):
-    lent = b"\xa5" * min(number(payload, 200, 4), LONGEST)
-    answer = reference.run(read_image(payload), payload[204:], lent)
+    return run_words(reference.run(read_image(payload), payload[204:], run_room(payload)))
+
+
+def run_room(payload):
+    """The output buffer that a run is lent."""
+    return b"\xa5" * min(number(payload, 200, 4), LONGEST)
+
+
+def run_words(answer):
     numbers = [answer.accepted, answer.refusal, answer.work, *fields(answer.ledger)]
     return spaced(numbers) + " " + hexed(answer.output)
 
@@ -121,6 +137,38 @@ def columns_line(payload):
     return " ".join([str(answer.refusal), *words, spaced(answer.stocks)])
 
 
+def read_totals(data):
+    """The buffer of totals and the bytes after it: its length b, the number c of bytes that follow, and these."""
+    b, end = number(data, 0, 2), TOTALS_HEAD + number(data, 2, 2)
+    lent = data[TOTALS_HEAD:end][:b]
+    return lent + bytes(b - len(lent)), data[end:]
+
+
+def read_month(payload):
+    """The ledger, the buffer of totals, the record's bytes and the output buffer of a step."""
+    return read_image(payload), *read_totals(payload[202:]), step_room(payload)
+
+
+def read_months(payload):
+    """The same of a run, with the records' bytes."""
+    return read_image(payload), *read_totals(payload[204:]), run_room(payload)
+
+
+def month_line(payload):
+    answer, totals = yearly_totals.take_month(*read_month(payload))
+    return step_words(answer) + " " + without_zeros(totals)
+
+
+def months_line(payload):
+    answer, totals = yearly_totals.run_months(*read_months(payload))
+    return run_words(answer) + " " + without_zeros(totals)
+
+
+def without_zeros(totals):
+    """The bytes of a buffer without the zeros at its end."""
+    return hexed(totals.rstrip(b"\0"))
+
+
 def fields(ledger):
     return [ledger.n, ledger.kind, ledger.climate, *ledger.year, *ledger.T, *ledger.R, *ledger.released]
 
@@ -152,6 +200,8 @@ KINDS = {
     "o": Kind(repair_line, 9, LONGEST),
     "t": Kind(reduction_line, HEAD, LONGEST),
     "b": Kind(columns_line, 2 * COLUMNS, LONGEST),
+    "y": Kind(month_line, 202 + TOTALS_HEAD, LONGEST),
+    "w": Kind(months_line, 204 + TOTALS_HEAD, LONGEST),
 }
 
 

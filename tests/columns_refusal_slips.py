@@ -113,7 +113,7 @@ def longer_ledger(file, lent):
     return 26 * short(file, lent) if refusal == 4 else refusal
 
 
-OF_RECORDS = [number for number in REFUSALS["record"] if number not in (2, 3, 23)]
+OF_RECORDS = [number for number in REFUSALS["record"] if number not in (2, 3, 23, 27, 28, 32)]
 ENGINE = {
     "room for one record less": with_room(lambda file: max(len(records_of(file)) - 1, 0) * BYTES),
     "room for 1199 records": with_room(lambda file: BYTES * (RECORDS - 1)),

@@ -5,8 +5,8 @@
   make_cases.py --store
   make_cases.py --check
 
-GROUP is base, door, samples, released, months, uncertainty, sludge, orders, work, tunisia, columns, all of these,
-every-sum, every-rate or every-order.
+GROUP is base, door, samples, released, months, uncertainty, sludge, orders, work, tunisia, columns,
+yearly_totals, all of these, every-sum, every-rate or every-order.
 DIR gets cases.bin and cases.txt, and a pair stop-*.bin, stop-*.txt for each way in which input cannot be read.
 Every run with the same seed writes the same bytes; the stored cases are those of all groups with seed 1. Three groups
 are not among them: every-sum has a case for each sum of squares that uncertainties come to, every-rate a look-up of
@@ -37,11 +37,14 @@ from tunisia_faults import years_refused
 from uncertainty_cases import every_sum, uncertainty
 from work_cases import work
 from work_faults import work_stopped
+from yearly_totals_cases import with_totals
+from yearly_totals_faults import with_totals_refused
 
 ROOT = os.path.join(os.path.dirname(os.path.abspath(__file__)), "..")
 GROUPS = {"base": [base], "door": [door], "samples": [samples], "released": [released], "months": [months]}
 GROUPS |= {"uncertainty": [uncertainty], "sludge": [sludge], "orders": [orders], "work": [work, work_stopped]}
 GROUPS |= {"tunisia": [years, years_refused], "columns": [by_columns, by_columns_refused]}
+GROUPS |= {"yearly_totals": [with_totals, with_totals_refused]}
 GROUPS["all"] = [cases_of for group in GROUPS.values() for cases_of in group]
 GROUPS["every-sum"] = [every_sum]
 GROUPS["every-rate"] = [every_rate]
@@ -67,6 +70,10 @@ STOPS = {
     "years-long": FIRST + b"t" + little([(cases.LONGEST + 1, 4)]),
     "columns-17": FIRST + case("b", bytes(2 * cases.COLUMNS - 1)) + FIRST,
     "columns-long": FIRST + b"b" + little([(cases.LONGEST + 1, 4)]),
+    "month-205": FIRST + case("y", bytes(cases.IMAGE + 5)) + FIRST,
+    "month-long": FIRST + b"y" + little([(cases.LONGEST + 1, 4)]),
+    "months-207": FIRST + case("w", bytes(cases.IMAGE + 7)) + FIRST,
+    "months-long": FIRST + b"w" + little([(cases.LONGEST + 1, 4)]),
     "payload": FIRST + FIRST[:-1],
 }
 

@@ -5,15 +5,15 @@ from unittest import mock
 import cases
 
 
-def unseen(readings, module, letter, *groups):
+def unseen(readings, module, letters, *groups):
     """The names of the readings that give the line of every stored case of the groups; short cases are tried first.
 
-    A reading has a name, and functions that it puts in the place of the module's.
+    A reading has a name, and functions that it puts in the place of the module's. The cases have these letters.
     """
-    line_of = cases.KINDS[letter].line
-    payloads = [each[5:] for cases_of in groups for each in cases_of(random.Random(1))]
-    lines = [(payload, line_of(payload)) for payload in sorted(payloads, key=len)]
+    line_of = {ord(letter): cases.KINDS[letter].line for letter in letters}
+    stored = sorted((each for cases_of in groups for each in cases_of(random.Random(1))), key=len)
+    lines = [(line_of[each[0]], each[5:], line_of[each[0]](each[5:])) for each in stored]
     for name, functions in readings.items():
         with mock.patch.multiple(module, **functions):
-            if all(line_of(payload) == line for payload, line in lines):
+            if all(line(payload) == printed for line, payload, printed in lines):
                 yield name

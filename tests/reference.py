@@ -2,7 +2,7 @@
 
 One function for each rule, in the documents' order and with their letters. Numbers are exact, and everything is a
 value: an output buffer goes in as bytes and comes back as bytes. Type j stands at place j - 1 of every list of eight.
-Request i is in tunisia.py and request j in columns.py, over the rules of this file.
+Request i is in tunisia.py, request j in columns.py and request l in yearly_totals.py, over the rules of this file.
 """
 import os
 import sys
@@ -220,7 +220,7 @@ def run(ledger, data, output):
 # "Refusal numbers, tested in this order"
 
 REFUSALS = {  # every number that there is, by what is refused; they may have gaps
-    "record": (1, 2, 3, 4, 5, 23, 6, 7, 8, 17, 9),  # 23 in tunisia.py alone
+    "record": (28, 1, 2, 3, 4, 5, 23, 27, 6, 7, 8, 17, 9, 32),  # 23 in tunisia.py alone; 27, 28, 32 in yearly_totals.py
     "cell": (10, 11, 12),
     "point": (13,),
     "samples": (14, 15, 16),

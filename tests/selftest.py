@@ -5,7 +5,8 @@ It holds the refusal numbers to those of docs/METHOD.md, README.md and include/l
 
 Of document 02 it holds masses from samples, the carbon released so far, months that share the year's factors, the
 correction factor from uncertainties, sludge with a measured dry matter, the shuffled files put right, the decay work
-of a run, the Tunisian reference method, the calculation by columns, and that more waste never shows less gas.
+of a run, the Tunisian reference method, the calculation by columns, that more waste never shows less gas, and the
+yearly totals beside a monthly run.
 
 Prints ok and exits 0, or stops at the first check that fails.
 """
@@ -31,6 +32,7 @@ import sludge_checks
 import tunisia_checks
 import uncertainty_checks
 import work_checks
+import yearly_totals_checks
 from checks import NO_VALUES, NOTHING, ROOM, check, fields_of, offered, told_again
 from faults import applied, named
 from histories import KINDS_AND_CLIMATES, PLAIN, balanced, damaged, file_of, measured, next_measured, next_record, only
@@ -385,6 +387,12 @@ def main():
     columns_checks.no_records()
     columns_checks.too_short()
     columns_checks.after_the_others()
+    yearly_totals_checks.worked()
+    yearly_totals_checks.limits()
+    yearly_totals_checks.lengths()
+    yearly_totals_checks.in_order()
+    yearly_totals_checks.beside_plain()
+    yearly_totals_checks.every_month()
     more_checks.worked()
     more_checks.dry_matter()
     more_checks.every_kilogram()
@@ -400,6 +408,7 @@ def main():
     work_checks.long_runs()
     tunisia_checks.greatest()
     columns_checks.full()
+    yearly_totals_checks.full()
     rng = random.Random(1)
     for kind, climate in KINDS_AND_CLIMATES:
         for part in (Fraction(0), Fraction(rng.randint(1, 98), 99), 1 - Fraction(1, 10**9), 1 - Fraction(1, 10**40)):
@@ -429,6 +438,10 @@ def main():
         more_checks.within_the_limit(rng, kind, climate)
         more_checks.a_milligram(rng, kind, climate)
     more_checks.either_way(rng)
+    for climate in (1, 2, 3, 4):
+        yearly_totals_checks.offers(rng, climate)
+        yearly_totals_checks.files(rng, climate)
+    yearly_totals_checks.short_cases(rng)
     cases_page()
     uncertainty_checks.every_sum()
     order_checks.every_order(rng)

@@ -1,8 +1,8 @@
 #!/usr/bin/env python3
 """A test of the selftest: changes each number of the reference by one, up and down, and sees the selftest fail.
 
-And one of the stored cases of requests g to j: sees them answered otherwise by every wrong reading in order_slips.py,
-in work_slips.py, in tunisia_slips.py and in columns_slips.py.
+And one of the stored cases of requests g to j and l: sees them answered otherwise by every wrong reading in
+order_slips.py, in work_slips.py, in tunisia_slips.py, in columns_slips.py and in yearly_totals_slips.py.
 
   slips.py    names every change and reading that goes unseen, then counts; status 1 where there is one (some minutes)
 """
@@ -17,11 +17,13 @@ import columns_slips
 import order_slips
 import tunisia_slips
 import work_slips
+import yearly_totals_slips
 
 ROOT = os.path.join(os.path.dirname(os.path.abspath(__file__)), "..")
-FILES = [os.path.join("tests", name) for name in ("reference.py", "tunisia.py", "columns.py")]
+FILES = [os.path.join("tests", name) for name in ("reference.py", "tunisia.py", "columns.py", "yearly_totals.py")]
 SAME = "range(16, (48 - 1), 4)"  # the one change that changes nothing
 MISREAD = {"g": order_slips, "h": work_slips, "i": tunisia_slips, "j": columns_slips}  # wrong readings of a request
+MISREAD["l"] = yearly_totals_slips
 
 
 def numbers(node):

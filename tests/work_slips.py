@@ -192,7 +192,7 @@ def kept_on():
     return counted(more)
 
 
-RECORD_REFUSALS = [number for number in REFUSALS["record"][1:] if number != 23]  # which no run has
+RECORD_REFUSALS = [number for number in REFUSALS["record"] if number not in (1, 23, 27, 28, 32)]  # of a run's records
 BY_RUN = {
     "no work": counted(lambda d: 0),
     "the accepted count": counted(lambda d: len(d.taken)),

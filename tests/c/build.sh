@@ -7,7 +7,8 @@ library='' seed=1
 flags='-std=c11 -O2 -Wall -Wextra -Werror -Iinclude -Itests/c'
 # The files of the differential test.
 differential='differential years sludge orders work reported choices uncertainties tunisia accepted entered stretches columns
- worked refused sheets spoiled more offers sides inputs ledgers reference entries reference_years reference_columns'
+ worked refused sheets spoiled more yearly_totals slots offered months offers sides inputs ledgers reference entries
+ reference_years reference_columns reference_totals'
 
 stop() { printf '%s\n' "$*" >&2; exit 2; }
 
@@ -64,10 +65,10 @@ build() {
 standin() {
     rm -rf "$target/standin"
     mkdir -p "$target/standin"
-    for file in reference.h reference.c entries.c reference_years.c reference_columns.c standin.c; do
+    for file in reference.h reference.c entries.c reference_years.c reference_columns.c reference_totals.c standin.c; do
         sed 's/reference_/standin_/g' "tests/c/$file" >"$target/standin/$file"
     done
-    for file in reference entries reference_years reference_columns standin; do
+    for file in reference entries reference_years reference_columns reference_totals standin; do
         "$gcc" -std=c11 -O2 -Iinclude -ffunction-sections -c -o "$target/standin/$file.o" "$target/standin/$file.c"
     done
     "$ar" rc "$target/standin/libstandin.a" "$target"/standin/*.o

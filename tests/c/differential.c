@@ -1,5 +1,5 @@
 /* Runs the library and the reference on many inputs, good and bad, and compares every answer and every byte.
- * Usage: differential [SEED [PART]], where PART is ledgers, tunisia, columns or more and leaves the others out */
+ * Usage: differential [SEED [PART]], where PART is ledgers, tunisia, columns, more or totals and leaves the others out */
 #include "columns.h"
 #include "more.h"
 #include "offers.h"
@@ -10,6 +10,7 @@
 #include "tunisia.h"
 #include "uncertainties.h"
 #include "work.h"
+#include "yearly_totals.h"
 #include "years.h"
 
 #include <inttypes.h>
@@ -337,10 +338,18 @@ static void all_by_columns(void)
     all_refused();
 }
 
+static void all_by_year(void)
+{
+    all_yearly_totals();
+    all_slots();
+    all_offered();
+}
+
 static const struct {
     const char *name;
     void (*ask)(void);
-} PARTS[] = {{"ledgers", all_ledgers}, {"tunisia", all_reductions}, {"columns", all_by_columns}, {"more", all_more}};
+} PARTS[] = {{"ledgers", all_ledgers}, {"tunisia", all_reductions}, {"columns", all_by_columns}, {"more", all_more},
+             {"totals", all_by_year}};
 
 /* Each part begins with the seed anew, so that it asks the same alone. */
 int main(int count, char **words)

@@ -1,6 +1,6 @@
 /* A first program with the library: two years of the site that docs/METHOD.md works by hand, with the decay work of a run, a
  * month that was sorted, a correction factor from uncertainties, sludge whose dry matter was measured, a shuffled file that is
- * put right, and the reduction of a semi-aerobic site.
+ * put right, the reduction of a semi-aerobic site, and months that are reported by year.
  * Build it with: gcc -Iinclude tests/c/example.c target/staticlib/liblandfill.a */
 #include "landfill.h"
 
@@ -154,6 +154,26 @@ static void reported_years(struct landfill_record year)
     printf("  accepted years: %" PRIu64 "\n", years);
 }
 
+/* A site that is recorded by month and reported by year: 18 months of 300 t of food. Year 2 has half of its months so far. */
+static void months_by_year(struct landfill_record month)
+{
+    enum { MONTHS = 18 };
+    uint8_t ledger[LANDFILL_LEDGER_BYTES], yearly_totals[LANDFILL_YEARLY_TOTALS_BYTES] = {0};
+    uint8_t file[MONTHS * LANDFILL_RECORD_BYTES], out[sizeof file];
+    uint64_t accepted, work;
+    month.kind = LANDFILL_MONTHLY;
+    for (month.period = 1; month.period <= MONTHS; month.period++)
+        landfill_put_record(file + LANDFILL_RECORD_BYTES * (month.period - 1), &month);
+    landfill_fresh(ledger, sizeof ledger);
+    expect("months 1 to 18", landfill_run_months(ledger, sizeof ledger, yearly_totals, sizeof yearly_totals, file, sizeof file,
+                                                 out, sizeof out, &accepted, &work));
+    for (unsigned number = 1; number <= 2; number++) {
+        struct landfill_year it = landfill_get_year(yearly_totals, number);
+        printf("year %" PRIu32 " by %" PRIu32 " months: %" PRIu64 " mg of carbon released, which is %" PRIu64
+               " g CO2e, give or take %" PRIu64 "\n", it.number, it.months, it.x0, it.figure, it.bound);
+    }
+}
+
 int main(void)
 {
     uint8_t ledger[LANDFILL_LEDGER_BYTES], first[LANDFILL_RECORD_BYTES], later[2 * LANDFILL_RECORD_BYTES];
@@ -210,5 +230,6 @@ int main(void)
     sludge_year(year);
     shuffled_file(year);
     reported_years(year);
+    months_by_year(year);
     return 0;
 }

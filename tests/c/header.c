@@ -54,6 +54,10 @@ static void check_sizes(void)
     check("a limit", LANDFILL_RECORDS == 1200 && LANDFILL_MASS_LIMIT == 1000000000);
     check("the limit of grams", LANDFILL_GRAMS_LIMIT == (uint64_t)1000000 * 1000000000);
     check("the limit of grams as a number without a sign", sizeof LANDFILL_GRAMS_LIMIT == 8 && 0 - LANDFILL_GRAMS_LIMIT > 0);
+    check("the size of a slot or of yearly totals", LANDFILL_YEAR_BYTES == 32 && LANDFILL_YEARLY_TOTALS_BYTES == 3200);
+    check("the number of slots", LANDFILL_YEARS == 100);
+    check("the limit of a sum", LANDFILL_SUM_LIMIT / 10 == (uint64_t)1000000000 * 1000000000 && LANDFILL_SUM_LIMIT % 10 == 0);
+    check("the limit of a sum as a number without a sign", sizeof LANDFILL_SUM_LIMIT == 8 && 0 - LANDFILL_SUM_LIMIT > 0);
 }
 
 static void check_places(void)
@@ -65,6 +69,7 @@ static void check_places(void)
                               LANDFILL_OUT_AT_BROUGHT};
     static const int answer[] = {LANDFILL_ANSWER_AT_X0, LANDFILL_ANSWER_AT_FIGURE, LANDFILL_ANSWER_AT_BOUND};
     static const int ledger[] = {LANDFILL_LEDGER_AT_BROUGHT, LANDFILL_LEDGER_AT_STOCK, LANDFILL_LEDGER_AT_RELEASED};
+    static const int slot[] = {LANDFILL_YEAR_AT_X0, LANDFILL_YEAR_AT_FIGURE, LANDFILL_YEAR_AT_BOUND};
     check("the place of a period", LANDFILL_RECORD_AT_PERIOD == 0 && LANDFILL_OUT_AT_PERIOD == 0);
     check_row("a place in a record", record, 9, 2, 1);
     check("the place of a dry matter", LANDFILL_RECORD_AT_DOMESTIC_DRY == 12 && LANDFILL_RECORD_AT_PAPER_DRY == 13);
@@ -79,6 +84,8 @@ static void check_places(void)
     check("the place of the year's factors in a ledger image",
           LANDFILL_LEDGER_AT_FACTOR == 4 && LANDFILL_LEDGER_AT_CLASS == 5 && LANDFILL_LEDGER_AT_CAPTURED == 6);
     check_row("a place in a ledger image", ledger, 3, 8, 64);
+    check("the place of a year's number or months", LANDFILL_YEAR_AT_NUMBER == 0 && LANDFILL_YEAR_AT_MONTHS == 4);
+    check_row("a place of a sum in a slot", slot, 3, 8, 8);
 }
 
 /* Every field has bytes of its own: no two are alike. */
@@ -241,6 +248,35 @@ static void check_released(void)
           landfill_get_released_so_far(ledger, 0) == 0 && landfill_get_released_so_far(ledger, 9) == 0);
 }
 
+static int is_year(struct landfill_year it, uint32_t number, uint32_t months, uint64_t x0, uint64_t figure, uint64_t bound)
+{
+    return it.number == number && it.months == months && it.x0 == x0 && it.figure == figure && it.bound == bound;
+}
+
+/* Every byte of the totals holds its place, less 251 as often as it goes: no two slots are alike. They start at an odd place. */
+static void check_totals_of_years(void)
+{
+    static const unsigned no_years[] = {0, 101, 102, 256, 257, 65537, (1u << 27) + 1, (unsigned)-1};
+    static uint8_t room[1 + LANDFILL_YEARLY_TOTALS_BYTES + 64], zeros[LANDFILL_YEARLY_TOTALS_BYTES];
+    const uint8_t *totals = room + 1;
+    unsigned year, i;
+    memset(room, 0xff, sizeof room);
+    for (i = 0; i < LANDFILL_YEARLY_TOTALS_BYTES; i++) room[1 + i] = (uint8_t)(i % 251);
+    check("year 1", is_year(landfill_get_year(totals, 1), 0x03020100, 0x07060504, 0x0f0e0d0c0b0a0908u, 0x1716151413121110u,
+                            0x1f1e1d1c1b1a1918u));
+    check("year 100", is_year(landfill_get_year(totals, 100), 0x9f9e9d9cu, 0xa3a2a1a0u, 0xabaaa9a8a7a6a5a4u,
+                              0xb3b2b1b0afaeadacu, 0xbbbab9b8b7b6b5b4u));
+    for (year = 1; year <= 100; year++) {
+        const uint8_t *slot = totals + 32 * (year - 1);
+        check("landfill_get_year", is_year(landfill_get_year(totals, year), (uint32_t)landfill_get(slot, 4),
+                                           (uint32_t)landfill_get(slot + 4, 4), landfill_get(slot + 8, 8),
+                                           landfill_get(slot + 16, 8), landfill_get(slot + 24, 8)));
+        check("a year without months", is_year(landfill_get_year(zeros, year), 0, 0, 0, 0, 0));
+    }
+    for (i = 0; i < sizeof no_years / sizeof no_years[0]; i++)
+        check("a number that is no year", is_year(landfill_get_year(totals, no_years[i]), 0, 0, 0, 0, 0));
+}
+
 /* Tells whether the helper repeats the year, or leaves the fields as they are. Every field, and every byte of the year's
  * factors, has a number of its own. */
 static int year_is_right(unsigned kind, unsigned n, int repeats)
@@ -348,13 +384,17 @@ static struct {
     uint8_t answer;
 } asked;
 
-/* The entries with the most words: landfill_tunisia declared once more, and a landfill_columns that writes down what it was
- * given. A compiler stops where this and the header differ. */
+/* The entries with the most words: landfill_tunisia and those with yearly totals declared once more, and a landfill_columns that
+ * writes down what it was given. A compiler stops where this and the header differ. */
 #ifdef __cplusplus
 extern "C" {
 #endif
 uint8_t landfill_tunisia(const uint8_t *, size_t, uint64_t, uint64_t, const uint64_t *, size_t, const uint64_t *, size_t,
                          uint64_t *, uint64_t *, int64_t *, uint64_t *, uint64_t *, uint8_t *);
+uint8_t landfill_take_month(uint8_t *, size_t, uint8_t *, size_t, const uint8_t *, size_t, uint8_t *, size_t, uint8_t *,
+                            size_t);
+uint8_t landfill_run_months(uint8_t *, size_t, uint8_t *, size_t, const uint8_t *, size_t, uint8_t *, size_t, uint64_t *,
+                            uint64_t *);
 
 uint8_t landfill_columns(const uint8_t *file, size_t file_len, uint64_t *c1, size_t n1, uint64_t *c2, size_t n2, uint64_t *c3,
                          size_t n3, uint64_t *c4, size_t n4, uint64_t *c5, size_t n5, uint64_t *c6, size_t n6, uint64_t *c7,
@@ -373,6 +413,21 @@ uint8_t landfill_columns(const uint8_t *file, size_t file_len, uint64_t *c1, siz
 #ifdef __cplusplus
 }
 #endif
+
+/* The calls compile with the buffers that a caller has; they are not made. */
+static void check_months(void)
+{
+    static const uint8_t file[LANDFILL_RECORD_BYTES] = {0};
+    uint8_t ledger[LANDFILL_LEDGER_BYTES], totals[LANDFILL_YEARLY_TOTALS_BYTES], out[LANDFILL_RECORD_BYTES];
+    uint8_t answer[LANDFILL_ANSWER_BYTES];
+    uint64_t accepted, work;
+    check("the answer of landfill_take_month",
+          sizeof landfill_take_month(ledger, sizeof ledger, totals, sizeof totals, file, sizeof file, out, sizeof out, answer,
+                                     sizeof answer) == 1);
+    check("the answer of landfill_run_months",
+          sizeof landfill_run_months(ledger, sizeof ledger, totals, sizeof totals, file, sizeof file, out, sizeof out,
+                                     &accepted, &work) == 1);
+}
 
 /* The call compiles with the numbers that a caller has; it is not made. */
 static void check_tunisia(void)
@@ -452,6 +507,9 @@ static const struct {
      "There are no years, they are not all accepted, or they do not have one entry each of electricity and of fuel."},
     {25, LANDFILL_GRAMS_TOO_LARGE, "An entry of electricity or fuel is over 1,000,000,000,000,000 grams."},
     {26, LANDFILL_COLUMN_TOO_SHORT, "A column has fewer places than the file has records."},
+    {27, LANDFILL_NOT_MONTHLY, "The record is yearly, where only monthly ones are taken."},
+    {28, LANDFILL_NOT_YEARLY_TOTALS, "The buffer of yearly totals is not 3200 bytes long."},
+    {32, LANDFILL_YEAR_DIFFERS, "The totals of the record's year are damaged, or do not go with the ledger."},
 };
 static const size_t refusal_count = sizeof refusals / sizeof refusals[0];
 
@@ -509,11 +567,13 @@ int main(void)
     check_byte();
     check_output();
     check_released();
+    check_totals_of_years();
     check_year();
     check_invert();
     check_changed();
     check_kg();
     check_tunisia();
+    check_months();
     check_columns();
     check_refusals();
     return wrong;

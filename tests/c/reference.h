@@ -39,7 +39,8 @@ uint64_t reference_read(const uint8_t *bytes, int count);
 void reference_write(uint8_t *bytes, int count, uint64_t number);
 
 /* The entries of landfill.h, with the same meaning (entries.c; look-up, masses, factors and repair in reference.c, the stretch
- * of years in reference_years.c, the columns and the helper for a block of them in reference_columns.c). */
+ * of years in reference_years.c, the columns and the helper for a block of them in reference_columns.c, the steps and runs with
+ * yearly totals in reference_totals.c). */
 uint8_t reference_fresh(uint8_t *ledger, size_t ledger_len);
 uint8_t reference_take(uint8_t *ledger, size_t ledger_len, const uint8_t *record, size_t record_len, uint8_t *out,
                        size_t out_len, uint8_t *answer, size_t answer_len);
@@ -65,5 +66,11 @@ uint8_t reference_columns(const uint8_t *file, size_t file_len, uint64_t *wood, 
                           size_t domestic_sludge_len, uint64_t *paper_sludge, size_t paper_sludge_len, uint64_t *figures,
                           size_t figures_len, uint64_t stocks[8]);
 uint8_t reference_columns_in(const uint8_t *file, size_t file_len, uint64_t *block, size_t places, uint64_t stocks[8]);
+uint8_t reference_take_month(uint8_t *ledger, size_t ledger_len, uint8_t *yearly_totals, size_t yearly_totals_len,
+                             const uint8_t *record, size_t record_len, uint8_t *out, size_t out_len, uint8_t *answer,
+                             size_t answer_len);
+uint8_t reference_run_months(uint8_t *ledger, size_t ledger_len, uint8_t *yearly_totals, size_t yearly_totals_len,
+                             const uint8_t *records, size_t records_len, uint8_t *out, size_t out_len, uint64_t *accepted,
+                             uint64_t *work);
 
 #endif

@@ -15,14 +15,17 @@ enum { PATTERN = 0xA5 };
 static const struct entries LIBRARY = {landfill_fresh,  landfill_take,   landfill_run,   landfill_totals,
                                        landfill_entry,  landfill_cell,   landfill_point, landfill_listing,
                                        landfill_masses, landfill_factor, landfill_factor_by_codes, landfill_repair,
-                                       landfill_tunisia, landfill_columns, landfill_columns_in};
+                                       landfill_tunisia, landfill_columns, landfill_columns_in,
+                                       landfill_take_month, landfill_run_months};
 static const struct entries REFERENCE = {reference_fresh,  reference_take,   reference_run,   reference_totals,
                                          reference_entry,  reference_cell,   reference_point, reference_listing,
                                          reference_masses, reference_factor, reference_factor_by_codes, reference_repair,
-                                         reference_tunisia, reference_columns, reference_columns_in};
+                                         reference_tunisia, reference_columns, reference_columns_in,
+                                         reference_take_month, reference_run_months};
 static const char *const NAMES[PLACES] = {
     "ledger", "records", "out", "answer", "text", "samples", "order", "report", "electricity", "fuel",
-    "wood", "paper", "food", "textiles", "garden", "inert", "domestic sludge", "paper sludge", "figures", "stocks", "block"};
+    "wood", "paper", "food", "textiles", "garden", "inert", "domestic sludge", "paper sludge", "figures", "stocks", "block",
+    "yearly totals"};
 
 struct given given;
 static struct side before, library, reference;

@@ -10,7 +10,7 @@
 enum { COLUMNS = 9 };
 enum place {
     LEDGER, RECORDS, OUT, ANSWER, TEXT, SAMPLES, ORDER, REPORT, ELECTRICITY, FUEL,
-    COLUMN, STOCKS = COLUMN + COLUMNS, BLOCK, PLACES
+    COLUMN, STOCKS = COLUMN + COLUMNS, BLOCK, TOTALS, PLACES
 };
 enum { ZONE = 64, LONGEST = 540000, ROOM = ZONE + 8 + LONGEST + ZONE };
 
@@ -65,6 +65,9 @@ struct entries {
                        uint64_t *, size_t, uint64_t *, size_t, uint64_t *, size_t, uint64_t *, size_t, uint64_t *, size_t,
                        uint64_t *);
     uint8_t (*columns_in)(const uint8_t *, size_t, uint64_t *, size_t, uint64_t *);
+    uint8_t (*take_month)(uint8_t *, size_t, uint8_t *, size_t, const uint8_t *, size_t, uint8_t *, size_t, uint8_t *, size_t);
+    uint8_t (*run_months)(uint8_t *, size_t, uint8_t *, size_t, const uint8_t *, size_t, uint8_t *, size_t, uint64_t *,
+                          uint64_t *);
 };
 
 typedef void call(const struct entries *entries, struct side *side);

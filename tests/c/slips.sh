@@ -20,7 +20,7 @@ build_slip() {
     ! cmp -s "$target/standin/$1" "$target/slip.c" || stop "nothing to edit in $1: $2"
     "$gcc" -std=c11 -O2 -Iinclude -I"$target/standin" -c -o "$target/slip.o" "$target/slip.c"
     others=''
-    for other in reference entries reference_years reference_columns standin; do
+    for other in reference entries reference_years reference_columns reference_totals standin; do
         [ "$other.c" = "$1" ] || others="$others $target/standin/$other.o"
     done
     build slip $objects "$target/slip.o" $others
@@ -46,10 +46,11 @@ while IFS='|' read -r slip file edit; do
         build_slip "$file" "$edit"
         verdict=', 1 difference$'
     fi
-    # A slip in the years or in the columns is looked for by the part that asks for them.
+    # A slip in the years, in the columns or in the totals is looked for by the part that asks for them.
     case $file in
     reference_years.c) part="$seed tunisia" ;;
     reference_columns.c) part="$seed columns" ;;
+    reference_totals.c) part="$seed totals" ;;
     *) part='' ;;
     esac
     status=0

@@ -91,3 +91,19 @@ uint8_t landfill_columns(const uint8_t *file, size_t file_len, uint64_t *wood, s
                              garden_len, inert, inert_len, domestic_sludge, domestic_sludge_len, paper_sludge,
                              paper_sludge_len, figures, figures_len, stocks);
 }
+
+uint8_t landfill_take_month(uint8_t *ledger, size_t ledger_len, uint8_t *yearly_totals, size_t yearly_totals_len,
+                            const uint8_t *record, size_t record_len, uint8_t *out, size_t out_len, uint8_t *answer,
+                            size_t answer_len)
+{
+    return reference_take_month(ledger, ledger_len, yearly_totals, yearly_totals_len, record, record_len, out, out_len, answer,
+                                answer_len);
+}
+
+uint8_t landfill_run_months(uint8_t *ledger, size_t ledger_len, uint8_t *yearly_totals, size_t yearly_totals_len,
+                            const uint8_t *records, size_t records_len, uint8_t *out, size_t out_len, uint64_t *accepted,
+                            uint64_t *work)
+{
+    return reference_run_months(ledger, ledger_len, yearly_totals, yearly_totals_len, records, records_len, out, out_len,
+                                accepted, work);
+}
