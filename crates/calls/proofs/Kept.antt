@@ -15,7 +15,7 @@ use Rattle.ledger.proofs.Take.{taken, take-refusal, refused-keeps}
 use Rattle.run.proofs.History.{run-goes-on, run-stops, run-ends}
 use Rattle.image.specs.Image.{imageOf, Kept}
 use Rattle.image.proofs.Kept.{image-back, accepted-kept, step-kept}
-use Rattle.calls.specs.Calls.{roomOf, takeHere, takeImage, runHere, runImage, offerOf, offersOf}
+use Rattle.calls.specs.Calls.{roomOf, imageThen, takeHere, takeImage, runHere, runImage, offerOf, offersOf}
 use Rattle.calls.proofs.Takes.{when-zero, when-not}
 
 -- After no turns the ledger is the one before them.
@@ -38,7 +38,7 @@ run-offered l (bytes ∷ rest) room =
 module _ (l : Ledger) (k : Kept l) where
   pub take-keeps : (bytes out answer : List ℕ)
       → takeImage (imageOf l) bytes out answer ≡ imageOf (ledgerAfter l (turns l (offerOf bytes out answer ∷ [])))
-  unfolding takeImage takeHere turns ledgerAfter
+  unfolding takeImage imageThen takeHere turns ledgerAfter
   take-keeps bytes out answer =
       let room = roomOf (length out) (length answer) in
       rw (image-back l k)

@@ -9,6 +9,7 @@ use borrow.Author.Tests.{eq-eqb, ne-eqb, eqb-true}
 use lib.Dec.{eqb, ltb}
 use lib.ListN.{length, take, drop, take-append-drop, drop-of-length-le}
 use lib.Seq.{take-all, length-take-le}
+use Rattle.record.specs.Fields.{recordBytes}
 use Rattle.ledger.specs.Refusal.{refusalOf}
 use Rattle.ledger.specs.Take.{acceptedOf, takeOf, writtenOf, outputRecord}
 use Rattle.run.specs.History.{Run, runOf}
@@ -19,10 +20,10 @@ use Rattle.ledger.proofs.Take.{taken, take-refusal, refused-writes-nothing}
 use Rattle.run.proofs.History.{run-stops, run-ends}
 use Rattle.image.specs.Image.{imageBytes, noLedger, ledgerOf, imageOf, imaged}
 use Rattle.image.proofs.Laws.{image-fills}
-use Rattle.calls.specs.Calls.{answerBytes, roomOf, takeHere, takeImage, takeOut, runImage}
+use Rattle.calls.specs.Calls.{answerBytes, roomOf, imageThen, outThen, takeHere, takeOut, runImage}
 
 -- A record is accepted only where the bytes are an image.
-accepted-image : (image bytes : List ℕ) (room : ℕ) → refusalOf (ledgerOf image) bytes room ≡ 0 → length image ≡ imageBytes
+pub accepted-image : (image bytes : List ℕ) (room : ℕ) → refusalOf (ledgerOf image) bytes room ≡ 0 → length image ≡ imageBytes
 unfolding ledgerOf noLedger
 accepted-image image bytes room e = by (eqb (length image) imageBytes) refl
   where
@@ -53,59 +54,70 @@ room-most out answer = by (ltb answer answerBytes)
     by true = omega arith
     by false = omega arith
 
--- One record, with so much of the output lent.
-module _ (image bytes out answer : List ℕ) (room : ℕ) (e : room ≡ roomOf (length out) (length answer)) where
-  abbrev l : Ledger
-  l = ledgerOf image
+-- What the step writes goes by its answer.
+written-then : (l : Ledger) (bytes out : List ℕ) → writtenOf l bytes out ≡ outThen (takeOf l bytes (length out)) out
+unfolding writtenOf outThen acceptedOf
+written-then l bytes out =
+    elim (ℕ-discrete (refusalOf l bytes (length out)) 0) [
+      | yes e ↦ rw (taken l bytes (length out) e, e)
+      | no e ↦
+          refused-writes-nothing l bytes out e
+          ∙ sym (when-not (takeOf l bytes (length out) .refusal) (outputRecord (takeOf l bytes (length out)) ++ drop recordBytes out) out (λ z. e (sym (take-refusal l bytes (length out)) ∙ z)))
+    ]
 
+-- What an answer leaves of an output of which so much is lent, and of an image.
+module _ (out answer : List ℕ) (room : ℕ) (e : room ≡ roomOf (length out) (length answer)) where
   abbrev part : List ℕ
   part = take room out
-
-  abbrev a : Answer
-  a = takeHere image bytes out answer
 
   pub part-length : length part ≡ room
   part-length = length-take-le room out (rw e (room-most (length out) (length answer)))
 
-  -- The step on that part is the step that is promised.
-  here : takeOf l bytes room ≡ a
-  unfolding takeHere
-  here = ap (takeOf l bytes) e
-
-  pub step-is : takeOf l bytes (length part) ≡ a
-  step-is = ap (takeOf l bytes) part-length ∙ here
-
-  refusal-is : a .refusal ≡ refusalOf l bytes room
-  refusal-is = ap (λ (x : Answer). x .refusal) (sym here) ∙ take-refusal l bytes room
-
-  pub output-left : {left : List ℕ} → left ≡ writtenOf l bytes part → left ++ drop room out ≡ takeOut image bytes out answer
-  unfolding takeOut writtenOf
-  output-left w =
-      elim (ℕ-discrete (refusalOf l bytes room) 0) [
+  pub out-left : (a : Answer) → (a .refusal ≡ 0 → recordBytes ≤ room) → {left : List ℕ} → left ≡ outThen a part → left ++ drop room out ≡ outThen a out
+  unfolding outThen
+  out-left a enough w =
+      elim (ℕ-discrete (a .refusal) 0) [
         | yes z ↦
-            let all : room ≡ length out = e ∙ room-all (length out) (length answer) (rw (← e) (omega (arith, has-room l bytes room z))) in
+            let all : room ≡ length out = e ∙ room-all (length out) (length answer) (rw (← e) (omega (arith, enough z))) in
             let whole : part ≡ out = take-all room out (omega arith) in
             let none : drop room out ≡ [] = drop-of-length-le out {i = room} (omega arith) in
-            let z′ : refusalOf l bytes (length out) ≡ 0 = rw (← all) z in
-            rw (w, whole, none, append-nil, when-zero (refusalOf l bytes (length out)) (outputRecord (acceptedOf l bytes) ++ drop 48 out) out z′)
-            (sym (when-zero (a .refusal) (outputRecord a ++ drop 48 out) out (refusal-is ∙ z) ∙ rw (← here, taken l bytes room z)))
-        | no z ↦
-            let some : refusalOf l bytes (length part) ≡ 0 → ⊥ = λ y. z (rw part-length at y) in
-            rw (w, refused-writes-nothing l bytes part some)
-            (take-append-drop room out ∙ sym (when-not (a .refusal) (outputRecord a ++ drop 48 out) out (λ y. z (sym refusal-is ∙ y))))
+            rw (w, whole, none, append-nil)
+        | no z ↦ rw (w, when-not (a .refusal) (outputRecord a ++ drop recordBytes part) part z) (take-append-drop room out ∙ sym (when-not (a .refusal) (outputRecord a ++ drop recordBytes out) out z))
       ]
 
-  pub image-next : a .refusal ≡ 0 → imaged (a .ledger) image ≡ takeImage image bytes out answer
-  unfolding takeImage
-  image-next z =
-      image-fills (a .ledger) image (accepted-image image bytes room (sym refusal-is ∙ z))
-      ∙ sym (when-zero (a .refusal) (imageOf (a .ledger)) image z)
+pub image-next : (a : Answer) (image : List ℕ) → length image ≡ imageBytes → a .refusal ≡ 0 → imaged (a .ledger) image ≡ imageThen a image
+unfolding imageThen
+image-next a image size z = image-fills (a .ledger) image size ∙ sym (when-zero (a .refusal) (imageOf (a .ledger)) image z)
 
-pub image-stays : (image bytes out answer : List ℕ) → (takeHere image bytes out answer .refusal ≡ 0 → ⊥) → takeImage image bytes out answer ≡ image
-unfolding takeImage
-image-stays image bytes out answer z =
-    let a = takeHere image bytes out answer in
-    when-not (a .refusal) (imageOf (a .ledger)) image z
+pub image-stays : (a : Answer) (image : List ℕ) → (a .refusal ≡ 0 → ⊥) → imageThen a image ≡ image
+unfolding imageThen
+image-stays a image z = when-not (a .refusal) (imageOf (a .ledger)) image z
+
+-- One record, with so much of the output lent: the step on that part is the step that is promised.
+module _ (image bytes out answer : List ℕ) (room : ℕ) (e : room ≡ roomOf (length out) (length answer)) where
+  abbrev l : Ledger
+  l = ledgerOf image
+
+  abbrev a : Answer
+  a = takeHere image bytes out answer
+
+  here : takeOf l bytes (length (take room out)) ≡ a
+  unfolding takeHere
+  here = ap (takeOf l bytes) (part-length out answer room e ∙ e)
+
+  pub step-is : takeOf l bytes (length (take room out)) ≡ a
+  step-is = here
+
+  plain : a .refusal ≡ 0 → refusalOf l bytes room ≡ 0
+  plain z = sym (take-refusal l bytes room) ∙ ap (λ (k : ℕ). takeOf l bytes k .refusal) (sym (part-length out answer room e)) ∙ ap (λ (x : Answer). x .refusal) here ∙ z
+
+  pub output-left : {left : List ℕ} → left ≡ writtenOf l bytes (take room out) → left ++ drop room out ≡ takeOut image bytes out answer
+  unfolding takeOut
+  output-left w =
+      out-left out answer room e a (λ z. has-room l bytes room (plain z)) (w ∙ written-then l bytes (take room out) ∙ ap (λ (x : Answer). outThen x (take room out)) here)
+
+  pub image-of : a .refusal ≡ 0 → length image ≡ imageBytes
+  image-of z = accepted-image image bytes room (plain z)
 
 -- A run that accepts a record began from an image.
 ran-image : (image : List ℕ) (records : List (List ℕ)) (room : ℕ) → 0 < length (runOf (ledgerOf image) records room .accepted) → length image ≡ imageBytes

@@ -26,16 +26,23 @@ answered a buffer = cond (ltb (length buffer) answerBytes) buffer (answerRow a +
 unfoldable pub roomOf : (out answer : ℕ) → ℕ
 roomOf out answer = cond (ltb answer answerBytes) 0 out
 
+-- What an answer leaves of an image and of an output: an accepted record's, or both as they are.
+unfoldable pub imageThen : Answer → List ℕ → List ℕ
+imageThen a image = cond (eqb (a .refusal) 0) (imageOf (a .ledger)) image
+
+unfoldable pub outThen : Answer → List ℕ → List ℕ
+outThen a out = cond (eqb (a .refusal) 0) (outputRecord a ++ drop recordBytes out) out
+
 -- One record, offered with that room.
 module _ (image bytes out answer : List ℕ) where
   unfoldable pub takeHere : Answer
   takeHere = takeOf (ledgerOf image) bytes (roomOf (length out) (length answer))
 
   unfoldable pub takeImage : List ℕ
-  takeImage = cond (eqb (takeHere .refusal) 0) (imageOf (takeHere .ledger)) image
+  takeImage = imageThen takeHere image
 
   unfoldable pub takeOut : List ℕ
-  takeOut = cond (eqb (takeHere .refusal) 0) (outputRecord takeHere ++ drop recordBytes out) out
+  takeOut = outThen takeHere out
 
   unfoldable pub takeAnswer : List ℕ
   takeAnswer = answered takeHere answer

@@ -12,7 +12,7 @@ use ledger::Ledger;
 const ANSWER_BYTES: usize = 88;
 
 // Writes the eight releases, x0, figure and bound of an answer. A buffer under 88 bytes keeps its values.
-fn write_answer(out: &mut [u8], answer: Answer)
+pub fn write_answer(out: &mut [u8], answer: Answer)
     ensures { λ _. ⌜ now (out .exit) ≡ answered answer (now (out .entry)) ⌝ }
 {
     if out.len() < ANSWER_BYTES {
@@ -26,7 +26,7 @@ fn write_answer(out: &mut [u8], answer: Answer)
 }
 
 // Answers the room for the output record: none where the answer has no room.
-fn room(out: usize, answer: usize) -> usize
+pub fn room(out: usize, answer: usize) -> usize
     ensures { λ r. ⌜ r ≡ roomOf out answer ⌝ }
 {
     if answer < ANSWER_BYTES { 0 } else { out }

@@ -16,7 +16,9 @@ ghost use Rattle.order.specs.Repair.{repairedOf, outLeft, reportLeft};
 ghost use Rattle.tunisia.specs.Reduction.{reductionOf};
 ghost use Rattle.by_type.specs.Columns.{nine, columnsOf, filledOf};
 ghost use Rattle.lines.specs.Listing.{listedOf, textOf};
-ghost use Rattle.calls.specs.Calls.{takeHere, takeImage, takeOut, takeAnswer, runHere, runImage};
+ghost use Rattle.calls.specs.Calls.{answered, imageThen, outThen, takeHere, takeImage, takeOut, takeAnswer, runHere, runImage};
+ghost use Rattle.yearly_totals.specs.Months.{totalsAfter};
+ghost use Rattle.month_calls.specs.MonthCalls.{takeMonthHere, monthTotalsHere, runMonthsHere};
 ghost use Rattle.landfill.specs.Entries.{cellOf};
 use door::Cell;
 use ledger::Ledger;
@@ -246,6 +248,46 @@ pub extern "C" fn landfill_columns(
     let left = filled.stocks;
     *stocks = left;
     filled.refusal
+}
+
+// Takes one monthly record and adds it to its year's slot: the image, the totals, the output and the answer are written, or the refusal's number
+// comes back.
+#[no_mangle]
+pub extern "C" fn landfill_take_month(
+    ledger: &mut [u8],
+    totals: &mut [u8],
+    record: &[u8],
+    out: &mut [u8],
+    answer: &mut [u8],
+) -> u8
+    ensures { λ r. ⌜ r ≡ takeMonthHere (now (ledger .entry)) (now (totals .entry)) (now («record» .entry)) (now (out .entry)) (now (answer .entry)) .refusal ⌝ }
+    ensures { λ _. ⌜ now (ledger .exit) ≡ imageThen (takeMonthHere (now (ledger .entry)) (now (totals .entry)) (now («record» .entry)) (now (out .entry)) (now (answer .entry))) (now (ledger .entry)) ⌝ }
+    ensures { λ _. ⌜ now (totals .exit) ≡ monthTotalsHere (now (ledger .entry)) (now (totals .entry)) (now («record» .entry)) (now (out .entry)) (now (answer .entry)) ⌝ }
+    ensures { λ _. ⌜ now (out .exit) ≡ outThen (takeMonthHere (now (ledger .entry)) (now (totals .entry)) (now («record» .entry)) (now (out .entry)) (now (answer .entry))) (now (out .entry)) ⌝ }
+    ensures { λ _. ⌜ now (answer .exit) ≡ answered (takeMonthHere (now (ledger .entry)) (now (totals .entry)) (now («record» .entry)) (now (out .entry)) (now (answer .entry))) (now (answer .entry)) ⌝ }
+{
+    month_calls::take(ledger, totals, record, out, answer)
+}
+
+// Takes the monthly records of a file one after another, adds each accepted one to its year's slot and writes its output record, and leaves the image of
+// the ledger after the last of them; answers the refusal of the next one, 0 if none, how many were accepted, and their decay work.
+#[no_mangle]
+pub extern "C" fn landfill_run_months(
+    ledger: &mut [u8],
+    totals: &mut [u8],
+    records: &[u8],
+    out: &mut [u8],
+    accepted: &mut u64,
+    work: &mut u64,
+) -> u8
+    ensures { λ r. ⌜ r ≡ runMonthsHere (now (ledger .entry)) (now (totals .entry)) (now (records .entry)) (length (now (out .entry))) .refusal ⌝ }
+    ensures { λ _. ⌜ now (ledger .exit) ≡ runImage (now (ledger .entry)) (runMonthsHere (now (ledger .entry)) (now (totals .entry)) (now (records .entry)) (length (now (out .entry)))) ⌝ }
+    ensures { λ _. ⌜ now (totals .exit) ≡ totalsAfter (now (totals .entry)) (runMonthsHere (now (ledger .entry)) (now (totals .entry)) (now (records .entry)) (length (now (out .entry))) .accepted) ⌝ }
+    ensures { λ _. ⌜ now (out .exit) ≡ outOf (runMonthsHere (now (ledger .entry)) (now (totals .entry)) (now (records .entry)) (length (now (out .entry)))) (now (out .entry)) ⌝ }
+    ensures { λ _. ⌜ now (accepted .exit) ≡ length (runMonthsHere (now (ledger .entry)) (now (totals .entry)) (now (records .entry)) (length (now (out .entry))) .accepted) ⌝ }
+    ensures { λ _. ⌜ now (work .exit) ≡ workOver (runMonthsHere (now (ledger .entry)) (now (totals .entry)) (now (records .entry)) (length (now (out .entry))) .accepted) ⌝ }
+{
+    month_calls::run(ledger, totals, records, out, accepted, work)
 }
 
 // Answers 0 and a figure's point of the chart, or 13 and zeros.

@@ -7,8 +7,8 @@ use borrow.Author.Needs.{needs}
 use denote.Ref.{now}
 use lib.ListN.{length, drop}
 use Rattle.ledger.specs.declared.answer.Answer.{Answer}
-use Rattle.calls.specs.Calls.{answered, takeHere, takeOut, takeAnswer}
-use Rattle.calls.proofs.Takes.{room-most, part-length, step-is, output-left, image-next, image-stays}
+use Rattle.calls.specs.Calls.{answered, imageThen, takeHere, takeImage, takeOut, takeAnswer}
+use Rattle.calls.proofs.Takes.{room-most, part-length, step-is, output-left, image-of, image-next, image-stays}
 use Rattle.calls.proofs.take.Statement.{statement}
 use Rattle.calls.proofs.take.Tie as tie
 
@@ -43,18 +43,20 @@ unfolding takeAnswer
 said c e = e ∙ ap (λ (a : Answer). answered a (now (start c .args .answer))) (done c)
 
 returns : tie.Need-returns
+unfolding takeImage
 returns c =
     let refused = c .before .before in
     let step = after-refusal refused in
     let s = start step .args in (
       ap (λ (a : Answer). a .refusal) (done step),
       (
-        sym (image-stays (now (s .image)) (s .«record» .now) (now (s .out)) (now (s .answer)) (λ z. refused .before .before .if1 .taken (ap (λ (a : Answer). a .refusal) (done step) ∙ z))),
+        sym (image-stays (takeHere (now (s .image)) (s .«record» .now) (now (s .out)) (now (s .answer))) (now (s .image)) (λ z. refused .before .before .if1 .taken (ap (λ (a : Answer). a .refusal) (done step) ∙ z))),
         (written step, said step (refused .write-answer .ensures)),
       ),
     )
 
 returns-2 : tie.Need-returns-2
+unfolding takeImage
 returns-2 c =
     let kept = c .before .before in
     let step = after-acceptance kept in
@@ -63,7 +65,7 @@ returns-2 c =
     let none = sym (ap (λ (a : Answer). a .refusal) (done step)) ∙ kept .before .before .before .before .before .before .if1 .left in (
       sym none,
       (
-        kept .before .before .before .before .write .ensures ∙ rw (done step) (image-next (now (s .image)) (s .«record» .now) (now (s .out)) (now (s .answer)) (room .result) (room .ensures) none),
+        kept .before .before .before .before .write .ensures ∙ rw (done step) (image-next (takeHere (now (s .image)) (s .«record» .now) (now (s .out)) (now (s .answer))) (now (s .image)) (image-of (now (s .image)) (s .«record» .now) (now (s .out)) (now (s .answer)) (room .result) (room .ensures) none) none),
         (written step, said step (kept .write-answer2 .ensures)),
       ),
     )
@@ -73,6 +75,6 @@ take-spec =
     tie.close
     (tie.spec (λ c κs. tt) (λ c κs. tt)
     (λ c. let s = c .before .before .before .before .before .before .before .args in omega (arith, c .before .before .room .ensures, room-most (length (now (s .out))) (length (now (s .answer)))))
-    (λ c. let s = c .before .before .before .before .before .before .before .before .args in let room = c .before .before .before .room in sym (part-length (now (s .image)) (s .«record» .now) (now (s .out)) (now (s .answer)) (room .result) (room .ensures)))
+    (λ c. let s = c .before .before .before .before .before .before .before .before .args in let room = c .before .before .before .room in sym (part-length (now (s .out)) (now (s .answer)) (room .result) (room .ensures)))
     (λ c κs. tt) (λ c κs. tt) (λ c. search needs) (λ c. search needs) (λ c. search needs) returns (λ c κs. tt) (λ c κs. tt)
     (λ c. search needs) (λ c. search needs) (λ c. search needs) returns-2)
