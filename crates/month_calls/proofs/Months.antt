@@ -8,7 +8,7 @@ use borrow.Author.Tests.{eq-eqb, ne-eqb}
 use lib.ListN.{length, take, drop}
 use Rattle.record.specs.Fields.{recordBytes}
 use Rattle.ledger.specs.Refusal.{refusalOf}
-use Rattle.ledger.specs.Take.{acceptedOf, refusedOf, outputRecord}
+use Rattle.ledger.specs.Take.{acceptedOf, outputRecord}
 use Rattle.ledger.specs.declared.book.Ledger.{Ledger}
 use Rattle.ledger.specs.declared.answer.Answer.{Answer}
 use Rattle.ledger.proofs.Accepted.{has-room}
@@ -20,19 +20,10 @@ use Rattle.calls.proofs.Takes.{when-not, accepted-image, part-length, out-left}
 use Rattle.year_slots.specs.Slots.{totalsBytes}
 use Rattle.yearly_totals.specs.Months.{monthRefusal, takeMonthOf, monthTotals, writtenMonth, monthRunOf}
 use Rattle.yearly_totals.proofs.Refusals.{taken-meets}
-use Rattle.yearly_totals.proofs.Turns.{taken-month, not-taken-month, wrong-run, month-stops, month-ends}
+use Rattle.yearly_totals.proofs.Turns.{taken-month, month-refusal, wrong-run, month-stops, month-ends}
 use Rattle.month_calls.specs.MonthCalls.{takeMonthHere, monthTotalsHere, runMonthsHere}
 
--- The refusal that a step answers is the number of the first fault.
-month-refusal : (l : Ledger) (totals bytes : List ℕ) (room : ℕ) → takeMonthOf l totals bytes room .refusal ≡ monthRefusal l totals bytes room
-unfolding acceptedOf refusedOf
-month-refusal l totals bytes room =
-    elim (ℕ-discrete (monthRefusal l totals bytes room) 0) [
-      | yes e ↦ ap (λ (a : Answer). a .refusal) (taken-month l totals bytes room e) ∙ sym e
-      | no e ↦ ap (λ (a : Answer). a .refusal) (not-taken-month l totals bytes room e)
-    ]
-
--- What it writes goes by its answer.
+-- What a step writes goes by its answer.
 written-then : (l : Ledger) (totals bytes out : List ℕ) → writtenMonth l totals bytes out ≡ outThen (takeMonthOf l totals bytes (length out)) out
 unfolding writtenMonth outThen acceptedOf
 written-then l totals bytes out =

@@ -21,6 +21,7 @@ pub mod Reductions
 pub mod Tunisia
 pub mod Releases
 pub mod Columns
+pub mod YearlyTotals
 pub mod Line
 pub mod Lines
 pub mod Calls

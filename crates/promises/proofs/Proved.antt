@@ -14,6 +14,7 @@ use Rattle.promise_work.proofs.Proved.{work-promise}
 use Rattle.promise_tunisia.proofs.Proved.{tunisia-promise}
 use Rattle.promise_columns.proofs.Proved.{columns-promise}
 use Rattle.promise_more.proofs.Proved.{more-promise}
+use Rattle.promise_totals.proofs.Proved.{totals-promise}
 
 pub promises : Promises
 promises =
@@ -32,4 +33,5 @@ promises =
       tunisian-reductions = tunisia-promise;
       columns-of-types = columns-promise;
       more-waste = more-promise;
+      yearly-totals = totals-promise;
     }

@@ -14,6 +14,7 @@ use Rattle.promise_work.specs.Promise.{WorkPromise}
 use Rattle.promise_tunisia.specs.Promise.{TunisiaPromise}
 use Rattle.promise_columns.specs.Promise.{ColumnsPromise}
 use Rattle.promise_more.specs.Promise.{MorePromise}
+use Rattle.promise_totals.specs.Promise.{TotalsPromise}
 
 pub record Promises : Type 0 where
   -- Demand 3, and request b of document 02: released carbon.
@@ -44,3 +45,5 @@ pub record Promises : Type 0 where
   pub columns-of-types : ColumnsPromise
   -- Document 02, request k: more waste never shows less gas.
   pub more-waste : MorePromise
+  -- Document 02, request l: yearly totals beside a monthly run.
+  pub yearly-totals : TotalsPromise

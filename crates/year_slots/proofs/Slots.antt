@@ -200,7 +200,7 @@ module _ (totals : List ℕ) (n : ℕ) where
       }
 
   -- ... and after some months of the year, that is all that it takes with the year's number,
-  counts-well : Agrees → counts ≡ false
+  pub counts-well : Agrees → counts ≡ false
   unfolding anyAbove
   counts-well a =
       simp (eq-eqb (s .months) (n % 12) (a .months), le-ltb sumLimit (s .x0) (a .x0), le-ltb sumLimit (s .figure) (a .figure), le-ltb sumLimit (s .bound) (a .bound))

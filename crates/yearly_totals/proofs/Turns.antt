@@ -3,6 +3,7 @@ use mathlib.Core.Path.{_≡_, refl, sym, ap, _∙_}
 use mathlib.Core.Bool.{Bool, true, false, cond}
 use mathlib.Core.List.{List, [], _∷_, _++_}
 use Prim.Native.Nat.{ℕ, _-_, _*_}
+use native.Mathlib.Decide.{ℕ-discrete}
 use borrow.Author.Tests.{eq-eqb, ne-eqb}
 use lib.Dec.{eqb}
 use lib.ListN.{length}
@@ -24,6 +25,15 @@ module _ (l : Ledger) (totals bytes : List ℕ) (room : ℕ) where
   pub not-taken-month : (monthRefusal l totals bytes room ≡ 0 → ⊥) → takeMonthOf l totals bytes room ≡ refusedOf l (monthRefusal l totals bytes room)
   unfolding takeMonthOf
   not-taken-month e = simp (ne-eqb (monthRefusal l totals bytes room) 0 e)
+
+  -- The refusal that a step answers is the number of the first fault.
+  pub month-refusal : takeMonthOf l totals bytes room .refusal ≡ monthRefusal l totals bytes room
+  unfolding acceptedOf refusedOf
+  month-refusal =
+      elim (ℕ-discrete (monthRefusal l totals bytes room) 0) [
+        | yes e ↦ ap (λ (a : Answer). a .refusal) (taken-month e) ∙ sym e
+        | no e ↦ ap (λ (a : Answer). a .refusal) (not-taken-month e)
+      ]
 
 -- An accepted record is added to its slot, and a refused one changes nothing.
 pub added-then : (totals : List ℕ) (turn : Turn) → turn .answer .refusal ≡ 0

@@ -12,6 +12,8 @@ use Rattle.landfill.proofs.landfill_factor_by_codes.Reads as factor-by-codes
 use Rattle.landfill.proofs.landfill_repair.Reads as repair
 use Rattle.landfill.proofs.landfill_tunisia.Reads as tunisia
 use Rattle.landfill.proofs.landfill_columns.Reads as columns
+use Rattle.landfill.proofs.landfill_take_month.Reads as take-month
+use Rattle.landfill.proofs.landfill_run_months.Reads as run-months
 use Rattle.landfill.proofs.landfill_point.Reads as point
 use Rattle.by_type.specs.Columns.{nine}
 use Rattle.landfill.proofs.landfill_listing.Reads as listing
@@ -57,6 +59,14 @@ landfill-tunisia-one =
 -- file, the nine columns and the stocks
 pub landfill-columns-one : Settled columns.Learnt (λ κs r s. r & nine (now (s .1 .0)) (now (s .1 .1 .0)) (now (s .1 .1 .1 .0)) (now (s .1 .1 .1 .1 .0)) (now (s .1 .1 .1 .1 .1 .0)) (now (s .1 .1 .1 .1 .1 .1 .0)) (now (s .1 .1 .1 .1 .1 .1 .1 .0)) (now (s .1 .1 .1 .1 .1 .1 .1 .1 .0)) (now (s .1 .1 .1 .1 .1 .1 .1 .1 .1 .0)) & now (s .1 .1 .1 .1 .1 .1 .1 .1 .1 .1 .0))
 landfill-columns-one = by-equation (λ κs a r s p. both (p .0) (both (p .1 .0) (p .1 .1)))
+
+-- ledger, totals, record, output and answer
+pub landfill-take-month-one : Settled take-month.Learnt (λ κs r s. r & now (s .0) & now (s .1 .0) & now (s .1 .1 .1 .0) & now (s .1 .1 .1 .1 .0))
+landfill-take-month-one = by-equation (λ κs a r s p. both (p .0) (both (p .1 .0) (both (p .1 .1 .0) (both (p .1 .1 .1 .0) (p .1 .1 .1 .1)))))
+
+-- ledger, totals, records, output, and the two numbers that are written
+pub landfill-run-months-one : Settled run-months.Learnt (λ κs r s. r & now (s .0) & now (s .1 .0) & now (s .1 .1 .1 .0) & now (s .1 .1 .1 .1 .0) & now (s .1 .1 .1 .1 .1 .0))
+landfill-run-months-one = by-equation (λ κs a r s p. both (p .0) (both (p .1 .0) (both (p .1 .1 .0) (both (p .1 .1 .1 .0) (both (p .1 .1 .1 .1 .0) (p .1 .1 .1 .1 .1))))))
 
 pub landfill-point-one : Settled point.Learnt (λ κs r s. r & now (s .1 .1 .0) & now (s .1 .1 .1 .0) & now (s .1 .1 .1 .1 .0))
 landfill-point-one = by-equation (λ κs a r s p. both (p .0) (both (p .1 .0) (both (p .1 .1 .0) (p .1 .1 .1))))

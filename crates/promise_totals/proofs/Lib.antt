@@ -1,0 +1,4 @@
+pub mod Years
+pub mod KeptTotals
+pub mod Numbers
+pub mod Proved
