@@ -45,6 +45,8 @@ fn judged(letter: u8, length: usize) -> u8
         b'o' => within(order_cases::HEAD, length, LONGEST),
         b't' => within(tunisia_cases::HEAD, length, LONGEST),
         b'b' => within(columns_cases::HEAD, length, LONGEST),
+        b'y' => within(yearly_totals_cases::STEP_HEAD, length, LONGEST),
+        b'w' => within(yearly_totals_cases::RUN_HEAD, length, LONGEST),
         b'u' | b'k' => within(
             uncertainty_cases::PAYLOAD,
             length,
@@ -67,6 +69,8 @@ fn put_line(letter: u8, payload: &[u8]) {
         b'o' => order_cases::repair(payload),
         b't' => tunisia_cases::reduction(payload),
         b'b' => columns_cases::fill(payload),
+        b'y' => yearly_totals_cases::step(payload),
+        b'w' => yearly_totals_cases::run(payload),
         b'u' => uncertainty_cases::by_percentages(payload),
         b'k' => uncertainty_cases::by_codes(payload),
         _ => (),

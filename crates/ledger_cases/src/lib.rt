@@ -3,8 +3,8 @@
 // calls them.
 ghost use mathlib.Core.Path.{_≡_};
 ghost use Prim.Native.Nat.{_≤_};
-ghost use lib.ListN.{length};
-ghost use Rattle.image.specs.Image.{imageBytes};
+ghost use lib.ListN.{length, take};
+ghost use Rattle.image.specs.Image.{imageBytes, ledgerOf};
 ghost use Rattle.lines.specs.Listing.{mostText};
 use ledger::Answer;
 use ledger::Ledger;
@@ -27,8 +27,9 @@ pub fn decay(payload: &[u8])
 }
 
 // Answers the ledger of a payload, whose image stands first.
-fn ledger_of(payload: &[u8]) -> Ledger
+pub fn ledger_of(payload: &[u8]) -> Ledger
     requires { ⌜ imageBytes ≤ length (now payload) ⌝ }
+    ensures { λ r. ⌜ r ≡ ledgerOf (take imageBytes (now (payload .entry))) ⌝ }
 {
     image::read(&payload[0..image::BYTES])
 }
@@ -47,7 +48,9 @@ fn put_ledger(ledger: Ledger) {
 }
 
 // Prints the numbers of a step's answer with a space after each.
-fn put_answer(answer: Answer) {
+pub fn put_answer(answer: Answer)
+    ensures { λ r. ⌜ r ≡ tt ⌝ }
+{
     let ledger = answer.ledger;
     let releases = answer.releases;
     print::number(answer.refusal as u64, b' ');
@@ -72,7 +75,9 @@ pub fn step(payload: &[u8])
 }
 
 // Prints the numbers of a run's answer with a space after each.
-fn put_outcome(outcome: Outcome) {
+pub fn put_outcome(outcome: Outcome)
+    ensures { λ r. ⌜ r ≡ tt ⌝ }
+{
     let ledger = outcome.ledger;
     print::three(outcome.accepted, outcome.refusal as u64, outcome.work);
     put_ledger(ledger);

@@ -10,8 +10,9 @@ judged-spec =
     tie.close
     (tie.spec (λ c κs. search needs) (λ c κs. search needs) (λ c κs. search needs) (λ c κs. search needs)
     (λ c κs. search needs) (λ c κs. search needs) (λ c κs. search needs) (λ c κs. search needs) (λ c κs. search needs) (λ c κs. search needs)
-    (λ c κs. search needs)
+    (λ c κs. search needs) (λ c κs. search needs) (λ c κs. search needs)
     (λ c fine. le-trans (c .within .ensures fine) (lit≤ tt)) (λ c. search needs) (λ c. search needs) (λ c. search needs)
     (λ c fine. le-trans (c .within5 .ensures fine) (lit≤ tt)) (λ c fine. le-trans (c .within6 .ensures fine) (lit≤ tt))
-    (λ c. search needs) (λ c. search needs) (λ c. search needs) (λ c. search needs) (λ c fine. le-trans (c .within11 .ensures fine) (lit≤ tt))
+    (λ c. search needs) (λ c. search needs) (λ c. search needs) (λ c. search needs) (λ c. search needs) (λ c. search needs)
+    (λ c fine. le-trans (c .within13 .ensures fine) (lit≤ tt))
     (λ c. search needs))
