@@ -202,8 +202,8 @@ enum {
 
 /* One slot of yearly totals, 32 bytes: where each field starts. Slot k, from 0 on, starts at byte 32 * k of its buffer. */
 enum {
-    LANDFILL_YEAR_AT_NUMBER = 0,  /* 4 bytes: the year's number, its slot plus 1 */
-    LANDFILL_YEAR_AT_MONTHS = 4,  /* 4 bytes: the months counted, 1 to 12 */
+    LANDFILL_YEAR_AT_NUMBER = 0,  /* 4 bytes: the year's number, its slot plus 1; 0 while it has no months */
+    LANDFILL_YEAR_AT_MONTHS = 4,  /* 4 bytes: the months counted, 0 to 12 */
     LANDFILL_YEAR_AT_X0 = 8,      /* 8 bytes: x0 of these months added, in mg */
     LANDFILL_YEAR_AT_FIGURE = 16, /* 8 bytes: their figures added, in grams CO2e */
     LANDFILL_YEAR_AT_BOUND = 24   /* 8 bytes: their bounds added, in grams CO2e */
@@ -435,7 +435,8 @@ uint8_t landfill_take_month(uint8_t *ledger, size_t ledger_len, uint8_t *yearly_
 /* Takes monthly records one after another, each as landfill_take_month takes it, stops at the first that is refused, and answers
  * its refusal, 0 if none. *accepted, *work, the image and out become what landfill_run makes of the records that are taken;
  * yearly_totals has each of them in its year's slot. Bytes at the end that make no whole record are refused with 1.
- * A buffer that is not 3200 bytes is refused with 28 also where records_len is 0, since it belongs to the call and not to a record.
+ * A buffer that is not 3200 bytes is refused with 28 also where records_len is 0, since it belongs to the call and not to a record;
+ * *accepted and *work are then 0.
  * With records_len 0 and 3200 bytes the answer is 0, whatever the image and the buffer hold. */
 uint8_t landfill_run_months(uint8_t *ledger, size_t ledger_len, uint8_t *yearly_totals, size_t yearly_totals_len,
                             const uint8_t *records, size_t records_len, uint8_t *out, size_t out_len,
@@ -612,8 +613,8 @@ struct landfill_year {
     uint64_t figure, bound; /* grams CO2e */
 };
 
-/* Reads a year, 1 to 100, from the 3200 bytes of a buffer of yearly totals. A year without months has number 0 too, and so has a
- * number that is no year. It looks at nothing else: a year that is reported whole has 12 months. */
+/* Reads a year, 1 to 100, from the 3200 bytes of a buffer of yearly totals. A year without months has 0 in every field, and so has
+ * a number that is no year. It looks at nothing else: a year that is reported whole has 12 months. */
 static inline struct landfill_year landfill_get_year(const uint8_t *yearly_totals, unsigned year)
 {
     struct landfill_year fields = {0, 0, 0, 0, 0};

@@ -18,7 +18,7 @@ use Rattle.ledger.specs.Take.{acceptedOf, refusedOf, takeOf, outputRecord}
 use Rattle.ledger.specs.declared.book.Ledger.{Ledger}
 use Rattle.ledger.specs.declared.answer.Answer.{Answer}
 use Rattle.ledger.proofs.Take.{taken, take-refusal, output-length}
-use Rattle.run.specs.History.{Offer, Turn, leading, outputs, cut, recordsOf, inTurn, Run, outOf}
+use Rattle.run.specs.History.{Offer, Turn, turns, accepted, leading, outputs, cut, recordsOf, inTurn, outOf}
 use Rattle.run.proofs.History.{acceptedTurn}
 use Rattle.year_slots.specs.Slots.{totalsBytes, slotRow, differs}
 use Rattle.yearly_totals.specs.Months.{monthRefusal, takeMonthOf, monthTotals, writtenMonth, totalsThen, monthTurns, totalsAfter, monthRunOf}
@@ -27,7 +27,7 @@ use Rattle.yearly_totals.proofs.Refusals.{wrong-length, month-refused, month-ta
 use Rattle.yearly_totals.proofs.Turns.{taken-month, not-taken-month, month-refusal, right-run, wrong-run, month-ends}
 use Rattle.yearly_totals.proofs.OneMonth.{refused-month}
 use Rattle.promise_totals.specs.Afresh.{ofYear, yearSlot, afresh, zeros, outputsOf}
-use Rattle.promise_totals.specs.Promise.{Fits, TotalsPromise}
+use Rattle.promise_totals.specs.Promise.{takenOffers, Fits, TotalsPromise}
 use Rattle.promise_totals.proofs.Years.{afresh-part}
 use Rattle.promise_totals.proofs.Numbers.{never-28, is-27, is-32, plain-small, none-ahead, ahead-none, fits-is, is-fit}
 use Rattle.promise_totals.proofs.KeptTotals.{Kept, fresh-kept, stays-kept, AfterOffers, after-offers}
@@ -140,6 +140,22 @@ module _ (l : Ledger) (totals bytes : List ℕ) (room : ℕ) where
       other unfit true e = refl
       other unfit false e = absurd (unfit (fits-is totals (periodOf bytes) e))
 
+an-offering : (offers : List Offer) (l : Ledger) (totals : List ℕ) → accepted (monthTurns l totals offers) ≡ turns l (takenOffers l totals offers)
+unfolding monthTurns takenOffers accepted turns acceptedOf refusedOf
+an-offering [] l totals = refl
+an-offering (offer ∷ rest) l totals =
+    let bytes = offer .bytes in
+    let room = offer .room in
+    elim (ℕ-discrete (monthRefusal l totals bytes room) 0) [
+      | yes e ↦
+          rw (taken-month l totals bytes room e, taken l bytes room (taken-meets l totals bytes room e .none))
+          (ap (λ (ts : List Turn). acceptedTurn l bytes ∷ ts) (an-offering rest (acceptedOf l bytes .ledger) (totalsThen totals (acceptedTurn l bytes))))
+      | no e ↦
+          rw (not-taken-month l totals bytes room e)
+          (simp (ne-eqb (monthRefusal l totals bytes room) 0 e)
+          (an-offering rest l (totalsThen totals (record { before = l; bytes = bytes; answer = refusedOf l (monthRefusal l totals bytes room) }))))
+    ]
+
 refused-stays : (l : Ledger) (totals bytes out : List ℕ) → let a = takeMonthOf l totals bytes (length out) in
     (a .refusal ≡ 0 → ⊥) → (a ≡ refusedOf l (a .refusal)) × (monthTotals l totals bytes (length out) ≡ totals) × (writtenMonth l totals bytes out ≡ out)
 refused-stays l totals bytes out some =
@@ -163,6 +179,7 @@ totals-promise =
       run-as-afresh = run-as-afresh;
       own-answer = own-answer;
       taken-where = taken-where;
+      an-offering = λ l totals offers. an-offering offers l totals;
       as-plain = λ offers none. after-offers offers fresh-kept .plain none;
       never-32 = λ offers. after-offers offers fresh-kept .never 0;
       refused-28 = refused-28;

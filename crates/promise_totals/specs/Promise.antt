@@ -1,6 +1,6 @@
 -- Document 02, request l, 'Yearly totals beside a monthly run'. proofs/Proved.antt proves `TotalsPromise`.
 use mathlib.Core.Path.{_≡_}
-use mathlib.Core.Bool.{true, false}
+use mathlib.Core.Bool.{true, false, cond}
 use mathlib.Core.Logic.{_↔_}
 use mathlib.Core.List.{List, [], _∷_}
 use Prim.Native.Nat.{ℕ, _+_, _-_, _*_, _/_, _%_, _^_, _≤_, _<_}
@@ -12,15 +12,23 @@ use Rattle.ledger.specs.Step.{fresh}
 use Rattle.ledger.specs.Refusal.{NoneAhead}
 use Rattle.ledger.specs.Take.{takeOf, refusedOf}
 use Rattle.ledger.specs.declared.book.Ledger.{Ledger}
-use Rattle.run.specs.History.{Offer, turns, ledgerAfter, cut, recordsOf, outOf}
-use Rattle.year_slots.specs.Slots.{slotSize, slotCount, totalsBytes, slotAt, sumLimit}
-use Rattle.yearly_totals.specs.Months.{takeMonthOf, monthTotals, writtenMonth, monthTurns, totalsAfter, monthRunOf}
+use Rattle.run.specs.History.{Offer, isAccepted, accepted, turns, cut, recordsOf, outOf}
+use Rattle.year_slots.specs.Slots.{slotAt}
+use Rattle.yearly_totals.specs.Months.{takeMonthOf, monthTurnOf, totalsThen, monthTotals, writtenMonth, monthTurns, totalsAfter, monthRunOf}
 use Rattle.promise_totals.specs.Afresh.{ofYear, afresh, zeros, outputsOf}
 
 -- No offered record is yearly.
 abbrev pub NoneYearly : List Offer → Type 0
 NoneYearly [] = Unit
 NoneYearly (offer ∷ rest) = (isYearly (kindOf (offer .bytes)) ≡ false) × NoneYearly rest
+
+-- The offers that are accepted.
+unfoldable pub takenOffers : Ledger → (totals : List ℕ) → List Offer → List Offer
+takenOffers l totals [] = []
+takenOffers l totals (offer ∷ rest) =
+    let turn = monthTurnOf l totals offer in
+    let next = takenOffers (turn .answer .ledger) (totalsThen totals turn) rest in
+    cond (isAccepted turn) (offer ∷ next) next
 
 -- 32 'where the slot's months are not the remainder of n − 1 by 12, a sum stored there is above 10^19, with months above 0 its year is not its
 -- slot plus 1, or with 0 months any byte of it is not 0'; here what the slot of period n is otherwise.
@@ -48,6 +56,8 @@ pub record TotalsPromise : Type 0 where
   pub taken-where : (l : Ledger) (totals bytes : List ℕ) (room : ℕ)
       → (takeMonthOf l totals bytes room .refusal ≡ 0)
       ↔ ((length totals ≡ 3200) × (takeOf l bytes room .refusal ≡ 0) × (isYearly (kindOf bytes) ≡ false) × Fits totals (periodOf bytes))
+  -- So the accepted records are an offering of the step, whatever the buffer, and demand 3 holds of them.
+  pub an-offering : (l : Ledger) (totals : List ℕ) (offers : List Offer) → accepted (monthTurns l totals offers) ≡ turns l (takenOffers l totals offers)
   -- From a fresh ledger and a buffer of zeros, monthly records are answered as the step answers them, and 32 never occurs.
   pub as-plain : (offers : List Offer) → NoneYearly offers → monthTurns fresh zeros offers ≡ turns fresh offers
   pub never-32 : (offers : List Offer) → Each (λ i turn. turn .answer .refusal ≡ 32 → ⊥) 0 (monthTurns fresh zeros offers)
