@@ -2,39 +2,37 @@
 -- together are at most what the ledger has released.
 use mathlib.Core.Path.{_≡_, refl, sym, ap, _∙_}
 use mathlib.Core.Bool.{Bool, true, false, cond, _&&_, _||_, and-false}
-use mathlib.Core.List.{List, [], _∷_, _++_, map, append-assoc, append-nil}
-use Prim.Native.Nat.{ℕ, zero, suc, _+_, _-_, _*_, _/_, _%_, _^_, _≤_, _<_}
-use native.Mathlib.Nat.{mul-le-mul-right}
+use mathlib.Core.List.{List, [], _∷_, _++_, append-assoc, append-nil}
+use Prim.Native.Nat.{ℕ, suc, _+_, _-_, _*_, _/_, _%_, _^_, _≤_, _<_}
 use native.Mathlib.Decide.{decLe, ℕ-discrete}
 use native.Mathlib.Omega.{arith}
-use borrow.Author.Tests.{eq-eqb, ne-eqb}
+use borrow.Author.Tests.{ne-eqb}
 use lib.Dec.{eqb, ltb}
 use lib.ListN.{length}
 use Rattle.numbers.specs.Lists.{added, Each}
 use Rattle.numbers.proofs.Eight.{cond-most}
 use Rattle.numbers.proofs.Lists.{length-more, added-more}
 use Rattle.waste.specs.Kind.{isYearly}
-use Rattle.record.specs.Fields.{recordBytes, periodOf, kindOf}
+use Rattle.record.specs.Fields.{periodOf, kindOf}
 use Rattle.carbon.specs.Carbon.{mostRecords}
 use Rattle.output.proofs.Laws.{Says}
 use Rattle.ledger.specs.Step.{fresh, after}
 use Rattle.ledger.specs.Refusal.{refusalOf}
 use Rattle.ledger.specs.Take.{acceptedOf, refusedOf, takeOf, outputRecord, outputFields, totalReleased}
 use Rattle.ledger.specs.declared.book.Ledger.{Ledger}
-use Rattle.ledger.specs.declared.answer.Answer.{Answer}
 use Rattle.ledger.proofs.Accepted.{Accepted, accepted-meets}
 use Rattle.ledger.proofs.Fits.{output-says}
-use Rattle.ledger.proofs.Take.{taken, not-taken, output-length}
-use Rattle.run.specs.History.{Offer, Turn, turns, turnOf, accepted}
+use Rattle.ledger.proofs.Take.{taken, not-taken}
+use Rattle.run.specs.History.{Offer, Turn, turns, accepted}
 use Rattle.run.proofs.History.{acceptedTurn}
 use Rattle.year_slots.specs.Slots.{totalsBytes, slotAt, slotRow, differs}
 use Rattle.year_slots.specs.declared.Slot.{Slot}
-use Rattle.year_slots.proofs.Slots.{Small, zeros-blank, Agrees, agrees, agrees-blank}
-use Rattle.yearly_totals.specs.Months.{monthRefusal, takeMonthOf, monthTurnOf, totalsThen, monthTurns, totalsAfter}
+use Rattle.year_slots.proofs.Slots.{SmallSlot, zeros-blank, agrees, agrees-blank}
+use Rattle.yearly_totals.specs.Months.{monthRefusal, totalsThen, monthTurns, totalsAfter}
 use Rattle.yearly_totals.specs.YearRun.{asMonthly}
 use Rattle.yearly_totals.proofs.Refusals.{month-refused, taken-meets, refused-any}
 use Rattle.yearly_totals.proofs.Turns.{taken-month, not-taken-month, added-then, stays-then}
-use Rattle.yearly_totals.proofs.YearRun.{Brings, brings}
+use Rattle.yearly_totals.proofs.YearRun.{brings}
 use Rattle.promise_totals.specs.Promise.{NoneYearly}
 use Rattle.promise_totals.specs.Afresh.{periodIn, x0In, figureIn, boundIn, ofYear, yearSlot, afresh, zeros, outputsOf}
 use Rattle.promise_totals.proofs.Numbers.{plain-small}
@@ -83,7 +81,7 @@ module _ {l : Ledger} {totals : List ℕ} {outs : List (List ℕ)} (h : Kept l t
   pub size : length totals ≡ totalsBytes
   size = ap length (h .is) ∙ afresh-length outs
 
-  small : l .n < mostRecords → Small (yearSlot k mine)
+  small : l .n < mostRecords → SmallSlot (yearSlot k mine)
   unfolding yearSlot
   small more =
       let x0 = year-part x0In k outs in

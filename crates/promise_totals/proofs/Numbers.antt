@@ -1,15 +1,14 @@
 -- Which record is refused by which number, and what a slot that fits is.
-use mathlib.Core.Path.{_≡_, refl, sym, ap, _∙_}
-use mathlib.Core.Bool.{Bool, true, false, cond, not, _&&_, _||_}
+use mathlib.Core.Path.{_≡_, refl, sym, _∙_}
+use mathlib.Core.Bool.{Bool, true, false, cond, _&&_, _||_}
 use mathlib.Core.Logic.{_⊎_, ⊎-elim}
 use mathlib.Core.List.{List}
-use Prim.Native.Nat.{ℕ, zero, suc, _+_, _-_, _*_, _/_, _%_, _≤_, _<_}
+use Prim.Native.Nat.{ℕ, _+_, _-_, _*_, _/_, _%_, _≤_}
 use native.Mathlib.Decide.{ℕ-discrete}
 use native.Mathlib.Omega.{arith}
-use borrow.Author.Tests.{eq-eqb, ne-eqb, eqb-true, ltb-true, le-ltb, not-false}
+use borrow.Author.Tests.{eq-eqb, eqb-true, ltb-true, not-false}
 use lib.Dec.{eqb, ltb}
-use lib.ListN.{length, getD}
-use Rattle.numbers.specs.Eight.{everyOf}
+use lib.ListN.{getD}
 use Rattle.numbers.specs.Fault.{Fault, firstOf, ahead}
 use Rattle.numbers.proofs.Eight.{both-true, either-true, every-at, every-each}
 use Rattle.numbers.proofs.Fault.{onward, parted, first-up-to, first-over}
@@ -17,10 +16,9 @@ use Rattle.refusal.specs.Refusal.{faultsOf}
 use Rattle.ledger.specs.Refusal.{sound, refusalOf, NoneAhead}
 use Rattle.ledger.specs.declared.book.Ledger.{Ledger}
 use Rattle.year_slots.specs.Slots.{slotSize, slotAt, isBlank, differs}
-use Rattle.year_slots.proofs.Slots.{Agrees, agreed, counts-well, agrees, agrees-blank, differs-none, differs-some}
+use Rattle.year_slots.proofs.Slots.{agreed, counts-well, agrees, agrees-blank, differs-none, differs-some}
 use Rattle.yearly_totals.specs.YearRun.{asMonthly}
-use Rattle.yearly_totals.proofs.Refusals.{accepted-only}
-use Rattle.promise_totals.specs.Promise.{Fits}
+use Rattle.promise_totals.specs.Promise.{SlotFits}
 
 -- The refusal of a record is that of the plain step, at most 17, or 27, or 32.
 module _ (q : ℕ) (y d : Bool) (small : q ≤ 17) where
@@ -86,7 +84,7 @@ module _ (totals : List ℕ) (p : ℕ) where
   unfolding differs
   same-slot = let e : p - 1 + 1 - 1 ≡ p - 1 = omega arith in rw e
 
-  pub fits-is : differs totals p ≡ false → Fits totals p
+  pub fits-is : differs totals p ≡ false → SlotFits totals p
   unfolding isBlank
   fits-is e =
       let e′ = sym same-slot ∙ e in
@@ -102,7 +100,7 @@ module _ (totals : List ℕ) (p : ℕ) where
             (every-at (λ i. eqb (getD totals (slotSize * (n / 12) + i) 0) 0) slotSize i h (not-false (isBlank totals (n / 12)) (sym (differs-none totals n well z) ∙ e′)));
       }
 
-  pub is-fit : Fits totals p → differs totals p ≡ false
+  pub is-fit : SlotFits totals p → differs totals p ≡ false
   unfolding isBlank
   is-fit f =
       same-slot

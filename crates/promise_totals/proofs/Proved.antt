@@ -1,13 +1,12 @@
 -- The promises on yearly totals, proved.
 use mathlib.Core.Path.{_≡_, refl, sym, ap, _∙_}
-use mathlib.Core.Bool.{Bool, true, false, cond}
+use mathlib.Core.Bool.{Bool, true, false}
 use mathlib.Core.Logic.{_↔_}
 use mathlib.Core.List.{List, [], _∷_, _++_, map, append-assoc, append-nil}
-use Prim.Native.Nat.{ℕ, suc, _+_, _*_, _<_}
+use Prim.Native.Nat.{ℕ, _+_, _*_, _<_}
 use native.Mathlib.Decide.{ℕ-discrete}
 use native.Mathlib.Omega.{arith}
-use borrow.Author.Tests.{eq-eqb, ne-eqb, not-true}
-use lib.Dec.{eqb, ltb}
+use borrow.Author.Tests.{ne-eqb}
 use lib.ListN.{length, take, drop, replicate}
 use lib.Seq.{take-at, drop-at}
 use Rattle.waste.specs.Kind.{isYearly}
@@ -20,17 +19,17 @@ use Rattle.ledger.specs.declared.answer.Answer.{Answer}
 use Rattle.ledger.proofs.Take.{taken, take-refusal, output-length}
 use Rattle.run.specs.History.{Offer, Turn, turns, accepted, leading, outputs, cut, recordsOf, inTurn, outOf}
 use Rattle.run.proofs.History.{acceptedTurn}
-use Rattle.year_slots.specs.Slots.{totalsBytes, slotRow, differs}
+use Rattle.year_slots.specs.Slots.{slotRow, differs}
 use Rattle.yearly_totals.specs.Months.{monthRefusal, takeMonthOf, monthTotals, writtenMonth, totalsThen, monthTurns, totalsAfter, monthRunOf}
 use Rattle.yearly_totals.specs.YearRun.{asMonthly}
 use Rattle.yearly_totals.proofs.Refusals.{wrong-length, month-refused, month-taken, taken-meets}
 use Rattle.yearly_totals.proofs.Turns.{taken-month, not-taken-month, month-refusal, right-run, wrong-run, month-ends}
 use Rattle.yearly_totals.proofs.OneMonth.{refused-month}
 use Rattle.promise_totals.specs.Afresh.{ofYear, yearSlot, afresh, zeros, outputsOf}
-use Rattle.promise_totals.specs.Promise.{takenOffers, Fits, TotalsPromise}
+use Rattle.promise_totals.specs.Promise.{takenOffers, SlotFits, TotalsPromise}
 use Rattle.promise_totals.proofs.Years.{afresh-part}
 use Rattle.promise_totals.proofs.Numbers.{never-28, is-27, is-32, plain-small, none-ahead, ahead-none, fits-is, is-fit}
-use Rattle.promise_totals.proofs.KeptTotals.{Kept, fresh-kept, stays-kept, AfterOffers, after-offers}
+use Rattle.promise_totals.proofs.KeptTotals.{Kept, fresh-kept, stays-kept, after-offers}
 
 untouched : (offers : List Offer) (k : ℕ) → k < 100 → let done = monthTurns fresh zeros offers in
     ofYear k (outputsOf done) ≡ [] → take 32 (drop (32 * k) (totalsAfter zeros done)) ≡ replicate 32 0
@@ -92,7 +91,7 @@ module _ (l : Ledger) (totals bytes : List ℕ) (room : ℕ) where
       let none = sym refused-is ∙ z in
       taken-month l totals bytes room none ∙ sym (taken l bytes room (taken-meets l totals bytes room none .none))
 
-  taken-where : (answer .refusal ≡ 0) ↔ ((length totals ≡ 3200) × (takeOf l bytes room .refusal ≡ 0) × (isYearly (kindOf bytes) ≡ false) × Fits totals (periodOf bytes))
+  taken-where : (answer .refusal ≡ 0) ↔ ((length totals ≡ 3200) × (takeOf l bytes room .refusal ≡ 0) × (isYearly (kindOf bytes) ≡ false) × SlotFits totals (periodOf bytes))
   taken-where = (
     λ z. let t = taken-meets l totals bytes room (sym refused-is ∙ z) in (t .size, take-refusal l bytes room ∙ t .none, t .month, fits-is totals (periodOf bytes) (t .agrees)),
     λ t. refused-is ∙ month-taken l totals bytes room (t .0) (sym (take-refusal l bytes room) ∙ t .1) (t .2) (is-fit totals (periodOf bytes) (t .3)),
@@ -127,7 +126,7 @@ module _ (l : Ledger) (totals bytes : List ℕ) (room : ℕ) where
     λ t. turned-is (t .0) ∙ simp (t .2, ahead-none l bytes room (t .1)),
   )
 
-  refused-32 : (answer .refusal ≡ 32) ↔ ((length totals ≡ 3200) × (takeOf l bytes room .refusal ≡ 0) × (isYearly (kindOf bytes) ≡ false) × (Fits totals (periodOf bytes) → ⊥))
+  refused-32 : (answer .refusal ≡ 32) ↔ ((length totals ≡ 3200) × (takeOf l bytes room .refusal ≡ 0) × (isYearly (kindOf bytes) ≡ false) × (SlotFits totals (periodOf bytes) → ⊥))
   unfolding asMonthly
   refused-32 = (
     λ z. let size = sized z (λ e. omega arith) in
@@ -136,7 +135,7 @@ module _ (l : Ledger) (totals bytes : List ℕ) (room : ℕ) where
     λ t. turned-is (t .0) ∙ simp (sym (take-refusal l bytes room) ∙ t .1, t .2, other (t .3) (differs totals (periodOf bytes)) refl),
   )
     where
-      other : (Fits totals (periodOf bytes) → ⊥) → (d : Bool) → differs totals (periodOf bytes) ≡ d → d ≡ true
+      other : (SlotFits totals (periodOf bytes) → ⊥) → (d : Bool) → differs totals (periodOf bytes) ≡ d → d ≡ true
       other unfit true e = refl
       other unfit false e = absurd (unfit (fits-is totals (periodOf bytes) e))
 

@@ -1,22 +1,20 @@
 -- A buffer worked out afresh: its slots, and one output record more.
 use mathlib.Core.Path.{_≡_, refl, sym, ap, _∙_}
-use mathlib.Core.Bool.{Bool, true, false, cond, _&&_}
+use mathlib.Core.Bool.{Bool, true, false, cond}
 use mathlib.Core.List.{List, [], _∷_, _++_, append-nil}
-use Prim.Native.Nat.{ℕ, zero, suc, _+_, _-_, _*_, _/_, _^_, _≤_, _<_}
+use Prim.Native.Nat.{ℕ, _+_, _-_, _*_, _/_, _≤_, _<_}
 use native.Mathlib.Decide.{ℕ-discrete}
 use native.Mathlib.Omega.{arith}
-use borrow.Author.Tests.{eq-eqb, ne-eqb, le-leb, leb-false}
-use lib.Dec.{eqb, leb}
-use lib.ListN.{length, take, drop, replicate, length-append}
-use lib.Seq.{sets}
+use borrow.Author.Tests.{eq-eqb, ne-eqb, le-leb}
+use lib.Dec.{eqb}
+use lib.ListN.{length}
 use Rattle.numbers.specs.Fault.{between}
-use Rattle.numbers.specs.Lists.{added, joined}
+use Rattle.numbers.specs.Lists.{added}
 use Rattle.numbers.proofs.Fault.{between-low, between-high}
 use Rattle.numbers.proofs.Joined.{joined-same, joined-length, joined-part, joined-set}
 use Rattle.numbers.proofs.Lists.{length-more, added-more}
 use Rattle.year_slots.specs.Slots.{slotSize, slotCount, totalsBytes, slotAt, slotRow, withMonth, addedTo}
-use Rattle.year_slots.specs.declared.Slot.{Slot}
-use Rattle.year_slots.proofs.Slots.{Small, row-length, part, slot-read}
+use Rattle.year_slots.proofs.Slots.{SmallSlot, row-length, part, slot-read}
 use Rattle.promise_totals.specs.Afresh.{periodIn, x0In, figureIn, boundIn, ofYear, yearSlot, afresh}
 
 abbrev pub inside : (k : ℕ) → List ℕ → Bool
@@ -67,7 +65,7 @@ pub afresh-part : (outs : List (List ℕ)) (k : ℕ) → k < slotCount → part 
 unfolding afresh
 afresh-part outs k h = joined-part (rows outs) slotSize slotCount (each-row outs) slotCount k (omega arith) h
 
-pub afresh-slot : (outs : List (List ℕ)) (k : ℕ) → k < slotCount → Small (yearSlot k (ofYear k outs)) → slotAt (afresh outs) k ≡ yearSlot k (ofYear k outs)
+pub afresh-slot : (outs : List (List ℕ)) (k : ℕ) → k < slotCount → SmallSlot (yearSlot k (ofYear k outs)) → slotAt (afresh outs) k ≡ yearSlot k (ofYear k outs)
 afresh-slot outs k h small = slot-read (afresh outs) k (yearSlot k (ofYear k outs)) small (afresh-part outs k h)
 
 -- a month more of a year
@@ -85,7 +83,7 @@ with-one k mine o =
     }
 
 -- The month after n, added to the buffer of the output records before it, makes that of all.
-pub afresh-more : (outs : List (List ℕ)) (o : List ℕ) (n : ℕ) → n < 1200 → periodIn o ≡ n + 1 → Small (yearSlot (n / 12) (ofYear (n / 12) outs))
+pub afresh-more : (outs : List (List ℕ)) (o : List ℕ) (n : ℕ) → n < 1200 → periodIn o ≡ n + 1 → SmallSlot (yearSlot (n / 12) (ofYear (n / 12) outs))
     → addedTo (afresh outs) (n + 1) (x0In o) (figureIn o) (boundIn o) ≡ afresh (outs ++ (o ∷ []))
 unfolding addedTo afresh
 afresh-more outs o n few period small =

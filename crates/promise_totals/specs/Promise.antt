@@ -32,7 +32,7 @@ takenOffers l totals (offer ∷ rest) =
 
 -- 32 'where the slot's months are not the remainder of n − 1 by 12, a sum stored there is above 10^19, with months above 0 its year is not its
 -- slot plus 1, or with 0 months any byte of it is not 0'; here what the slot of period n is otherwise.
-pub record Fits (totals : List ℕ) (n : ℕ) : Type 0 where
+pub record SlotFits (totals : List ℕ) (n : ℕ) : Type 0 where
   pub months : slotAt totals ((n - 1) / 12) .months ≡ (n - 1) % 12
   pub x0 : slotAt totals ((n - 1) / 12) .x0 ≤ 10 ^ 19
   pub figure : slotAt totals ((n - 1) / 12) .figure ≤ 10 ^ 19
@@ -55,7 +55,7 @@ pub record TotalsPromise : Type 0 where
   -- and it is where the step accepts a monthly record, the buffer is 3200 bytes, and the record's slot fits.
   pub taken-where : (l : Ledger) (totals bytes : List ℕ) (room : ℕ)
       → (takeMonthOf l totals bytes room .refusal ≡ 0)
-      ↔ ((length totals ≡ 3200) × (takeOf l bytes room .refusal ≡ 0) × (isYearly (kindOf bytes) ≡ false) × Fits totals (periodOf bytes))
+      ↔ ((length totals ≡ 3200) × (takeOf l bytes room .refusal ≡ 0) × (isYearly (kindOf bytes) ≡ false) × SlotFits totals (periodOf bytes))
   -- So the accepted records are an offering of the step, whatever the buffer, and demand 3 holds of them.
   pub an-offering : (l : Ledger) (totals : List ℕ) (offers : List Offer) → accepted (monthTurns l totals offers) ≡ turns l (takenOffers l totals offers)
   -- From a fresh ledger and a buffer of zeros, monthly records are answered as the step answers them, and 32 never occurs.
@@ -67,7 +67,7 @@ pub record TotalsPromise : Type 0 where
       → (takeMonthOf l totals bytes room .refusal ≡ 27) ↔ ((length totals ≡ 3200) × NoneAhead 6 l bytes room × (isYearly (kindOf bytes) ≡ true))
   pub refused-32 : (l : Ledger) (totals bytes : List ℕ) (room : ℕ)
       → (takeMonthOf l totals bytes room .refusal ≡ 32)
-      ↔ ((length totals ≡ 3200) × (takeOf l bytes room .refusal ≡ 0) × (isYearly (kindOf bytes) ≡ false) × (Fits totals (periodOf bytes) → ⊥))
+      ↔ ((length totals ≡ 3200) × (takeOf l bytes room .refusal ≡ 0) × (isYearly (kindOf bytes) ≡ false) × (SlotFits totals (periodOf bytes) → ⊥))
   -- ledger, buffer and output then stay.'
   pub refused-stays : (l : Ledger) (totals bytes out : List ℕ) → let a = takeMonthOf l totals bytes (length out) in
       (a .refusal ≡ 0 → ⊥) → (a ≡ refusedOf l (a .refusal)) × (monthTotals l totals bytes (length out) ≡ totals) × (writtenMonth l totals bytes out ≡ out)

@@ -1,16 +1,15 @@
 -- The run of what is left of a file is the run of its first stretch and, where that refuses nothing, the run of the rest.
 use mathlib.Core.Path.{_≡_, refl, sym, ap, _∙_}
-use mathlib.Core.Bool.{Bool, true, false, cond, _&&_}
-use mathlib.Core.List.{List, [], _++_, append-nil}
+use mathlib.Core.Bool.{Bool, true, false, cond}
+use mathlib.Core.List.{List, [], _++_}
 use Prim.Native.Nat.{ℕ, _+_, _-_, _*_, _≤_, _<_}
 use native.Mathlib.Nat.{zero-add, add-zero, add-sub-cancel-left}
-use native.Mathlib.Decide.{decLe, ℕ-discrete}
+use native.Mathlib.Decide.{ℕ-discrete}
 use native.Mathlib.Omega.{arith}
-use borrow.Author.Tests.{eqb-true, ltb-true, ltb-false, eq-eqb, ne-eqb}
+use borrow.Author.Tests.{ltb-true, ltb-false, eq-eqb, ne-eqb}
 use lib.Dec.{eqb, ltb}
-use lib.ListN.{length, take, drop, length-drop, length-append, length-take, take-append-drop, drop-of-length-le}
-use lib.Seq.{length-take-le, take-all, drop-drop}
-use Rattle.numbers.proofs.Eight.{both-true}
+use lib.ListN.{length, take, drop, length-drop, length-append, length-take, drop-of-length-le}
+use lib.Seq.{take-all, drop-drop}
 use Rattle.record.specs.Fields.{recordBytes}
 use Rattle.carbon.specs.Carbon.{mostRecords}
 use Rattle.ledger.specs.Step.{fresh}

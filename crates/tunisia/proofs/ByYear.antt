@@ -1,14 +1,14 @@
 -- A monthly record more is refused in this mode, and nothing else changes: after a yearly record a monthly one is refused in any run.
 use mathlib.Core.Path.{_≡_, refl, sym, ap, _∙_}
-use mathlib.Core.Bool.{Bool, true, false, cond, _&&_, _||_, and-false, or-false}
+use mathlib.Core.Bool.{Bool, true, false, cond, _&&_, _||_, or-false}
 use mathlib.Core.List.{List, [], _∷_}
 use Prim.Native.Nat.{ℕ, zero, suc, _+_, _-_, _*_, _≤_, _<_}
 use native.Mathlib.Decide.{ℕ-discrete}
 use native.Mathlib.Omega.{arith}
-use borrow.Author.Tests.{ne-eqb, le-ltb, eqb-true}
+use borrow.Author.Tests.{ne-eqb, eqb-true}
 use lib.Dec.{eqb, ltb}
 use lib.ListN.{length, take, drop, length-drop, length-take}
-use lib.Seq.{getD-take, drop-drop, take-all}
+use lib.Seq.{getD-take, drop-drop}
 use Rattle.numbers.specs.Fault.{Fault}
 use Rattle.numbers.proofs.Fault.{inserted-turns}
 use Rattle.waste.specs.Kind.{yearly, isMonthly}

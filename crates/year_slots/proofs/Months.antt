@@ -1,10 +1,10 @@
 -- Some months added one after the other: what is left to add is added to what was added so far.
-use mathlib.Core.Path.{_≡_, refl, sym, ap, _∙_}
+use mathlib.Core.Path.{_≡_, _∙_}
 use mathlib.Core.List.{List}
-use Prim.Native.Nat.{ℕ, zero, suc, _+_, _-_, _*_, _≤_, _<_}
+use Prim.Native.Nat.{ℕ, suc, _+_, _-_, _*_, _≤_}
 use native.Mathlib.Omega.{arith}
 use lib.ListN.{length, drop}
-use lib.Seq.{sets, length-sets, drop-drop}
+use lib.Seq.{length-sets, drop-drop}
 use Rattle.record.specs.Fields.{recordBytes}
 use Rattle.carbon.specs.Carbon.{mostRecords}
 use Rattle.year_slots.specs.Slots.{slotSize, totalsBytes, slotOf, slotAt, slotRow, withMonth, addedTo}

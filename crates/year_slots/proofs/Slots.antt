@@ -11,7 +11,6 @@ use lib.Dec.{eqb, ltb}
 use lib.ListN.{length, take, drop, getD}
 use lib.Seq.{sets, sets-eq, getD-take, drop-at, take-at, length-take-le}
 use Rattle.numbers.specs.Bytes.{numberAt}
-use Rattle.numbers.specs.Eight.{everyOf}
 use Rattle.numbers.proofs.Bytes.{sets-join, read-back, number-drop, number-same}
 use Rattle.numbers.proofs.Eight.{both-true, either-false, every-at, every-each}
 use Rattle.year_slots.specs.Slots.{slotSize, slotAt, slotRow, sumLimit, anyAbove, isBlank, differs}
@@ -26,7 +25,7 @@ unfolding slotRow
 row-length s = refl
 
 -- A slot whose numbers fit their bytes.
-pub record Small (s : Slot) : Type 0 where
+pub record SmallSlot (s : Slot) : Type 0 where
   pub year : s .year < 256 ^ 4
   pub months : s .months < 256 ^ 4
   pub x0 : s .x0 < 256 ^ 8
@@ -48,7 +47,7 @@ module _ (totals : List ℕ) (k : ℕ) where
       ∙ number-same j (drop (slotSize * k) totals) (part totals k) o o (λ i l. sym (getD-take slotSize (drop (slotSize * k) totals) (o + i) 0 (omega arith)))
 
   -- Where the bytes of a slot are, the slot is read.
-  pub slot-read : (s : Slot) → Small s → part totals k ≡ slotRow s → slotAt totals k ≡ s
+  pub slot-read : (s : Slot) → SmallSlot s → part totals k ≡ slotRow s → slotAt totals k ≡ s
   unfolding slotAt slotRow
   slot-read s b e =
       let own : (j o : ℕ) → o + j ≤ slotSize → numberAt j totals (slotSize * k + o) ≡ numberAt j (slotRow s) o
@@ -58,7 +57,7 @@ module _ (totals : List ℕ) (k : ℕ) where
       (own 8 16 (omega arith) ∙ read-back 8 (s .figure) (b .figure)) (own 8 24 (omega arith) ∙ read-back 8 (s .bound) (b .bound))
 
 -- So it is read where it was written.
-pub slot-written : (totals : List ℕ) (k : ℕ) (s : Slot) → Small s → slotSize * k + slotSize ≤ length totals → slotAt (sets totals (slotSize * k) (slotRow s)) k ≡ s
+pub slot-written : (totals : List ℕ) (k : ℕ) (s : Slot) → SmallSlot s → slotSize * k + slotSize ≤ length totals → slotAt (sets totals (slotSize * k) (slotRow s)) k ≡ s
 slot-written totals k s b room =
     let at = slotSize * k in
     let row = slotRow s in

@@ -3,13 +3,12 @@ use mathlib.Core.Path.{_≡_, refl, sym, ap, _∙_}
 use mathlib.Core.Bool.{Bool, true, false, cond, _||_}
 use mathlib.Core.List.{List, [], _∷_, _++_, append-assoc, append-nil}
 use Prim.Native.Nat.{ℕ, zero, suc, _+_, _-_, _*_, _/_, _%_, _≤_, _<_}
-use native.Mathlib.Nat.{add-zero, sub-zero}
-use native.Mathlib.Decide.{decLe, ℕ-discrete}
+use native.Mathlib.Decide.{ℕ-discrete}
 use native.Mathlib.Omega.{arith}
 use borrow.Author.Tests.{eq-eqb, ne-eqb}
 use lib.Dec.{eqb}
 use lib.ListN.{length, take, drop, length-append, length-drop, length-take, drop-of-length-le}
-use lib.Seq.{drop-drop, drop-at, take-at, length-take-le}
+use lib.Seq.{drop-drop, drop-at, take-at}
 use Rattle.waste.specs.Kind.{isYearly}
 use Rattle.record.specs.Fields.{recordBytes, kindOf}
 use Rattle.ledger.specs.Take.{acceptedOf}
@@ -17,7 +16,7 @@ use Rattle.ledger.specs.declared.book.Ledger.{Ledger}
 use Rattle.ledger.proofs.Accepted.{accepted-meets, has-room}
 use Rattle.run.specs.History.{Turn, outputs, workOver, recordsOf, Run, outOf, outcomeOf}
 use Rattle.run.specs.declared.Outcome.{Outcome}
-use Rattle.run.proofs.History.{no-records, first-record, records-count, records-split, stopped, onFrom, outputs-length, outputs-join, over-most, work-join}
+use Rattle.run.proofs.History.{no-records, first-record, records-count, records-split, onFrom, outputs-length, outputs-join, over-most, work-join}
 use Rattle.year_slots.specs.Slots.{totalsBytes, slotAt}
 use Rattle.yearly_totals.specs.Months.{monthRefusal, totalsAfter, monthRunOf}
 use Rattle.yearly_totals.specs.YearRun.{slotRefuses, areSmall, atOnce, recordsAtOnce, yearRun}
@@ -25,13 +24,13 @@ use Rattle.yearly_totals.proofs.Refusals.{taken-meets}
 use Rattle.yearly_totals.proofs.Turns.{then-length, after-length, after-join, totalsWith, month-goes-on, month-stops, month-ends, month-join, month-refused-run}
 
 -- The accepted records of a file are in it, their output records are in the room, and without refusal they are the whole file.
-pub record Within (file : List ℕ) (room : ℕ) (r : Run) : Type 0 where
+pub record RunWithin (file : List ℕ) (room : ℕ) (r : Run) : Type 0 where
   pub in-file : recordBytes * length (r .accepted) ≤ length file
   pub in-room : recordBytes * length (r .accepted) ≤ room
   pub all : r .refusal ≡ 0 → recordBytes * length (r .accepted) ≡ length file
 
 pub month-within : (k : ℕ) (file : List ℕ) → length file ≤ k → (l : Ledger) (totals : List ℕ) → length totals ≡ totalsBytes → (room : ℕ)
-    → Within file room (monthRunOf l totals (recordsOf file) room)
+    → RunWithin file room (monthRunOf l totals (recordsOf file) room)
 month-within zero file short l totals size room =
     rw (no-records file (omega arith), month-ends l totals size room) (record { in-file = omega arith; in-room = omega arith; all = λ none. omega arith })
 month-within (suc k) file short l totals size room =
@@ -81,7 +80,7 @@ module _ (l : Ledger) (totals left : List ℕ) (room : ℕ) (size : length total
   abbrev pub ran : Run
   ran = yearRun l totals left room
 
-  pub year-within : Within (take k left) room ran
+  pub year-within : RunWithin (take k left) room ran
   year-within = month-within (length (take k left)) (take k left) (omega arith) l totals size room
 
   abbrev done : ℕ
@@ -145,7 +144,7 @@ module _ {l₀ : Ledger} {totals₀ file out₀ totals out : List ℕ} {l : Ledg
   abbrev r : Run
   r = yearRun l totals left room
 
-  abbrev w : Within (take (k l totals left room (h .size)) left) room r
+  abbrev w : RunWithin (take (k l totals left room (h .size)) left) room r
   w = year-within l totals left room (h .size)
 
   abbrev at′ : ℕ

@@ -4,8 +4,7 @@ use mathlib.Core.Bool.{Bool, true, false}
 use mathlib.Core.List.{List, [], _∷_, _++_, append-nil}
 use Prim.Native.Nat.{ℕ, _-_}
 use native.Mathlib.Decide.{ℕ-discrete}
-use native.Mathlib.Omega.{arith}
-use borrow.Author.Tests.{eq-eqb, ne-eqb}
+use borrow.Author.Tests.{ne-eqb}
 use lib.ListN.{length, getD, drop}
 use Rattle.numbers.specs.Bytes.{numberAt}
 use Rattle.numbers.specs.Eight.{eight}
@@ -23,7 +22,7 @@ use Rattle.run.specs.History.{outputs, recordsOf, Run, outOf, outcomeOf}
 use Rattle.run.proofs.History.{one-record, stopped, onFrom, acceptedTurn}
 use Rattle.run.proofs.OneRecord.{no-record}
 use Rattle.year_slots.specs.Slots.{totalsBytes, differs}
-use Rattle.yearly_totals.specs.Months.{monthRefusal, takeMonthOf, monthTurnOf, totalsThen, monthTotals, writtenMonth, totalsAfter, monthRunOf}
+use Rattle.yearly_totals.specs.Months.{monthRefusal, takeMonthOf, monthTurnOf, monthTotals, writtenMonth, totalsAfter, monthRunOf}
 use Rattle.yearly_totals.specs.YearRun.{asMonthly}
 use Rattle.yearly_totals.proofs.Refusals.{month-refused, taken-meets}
 use Rattle.yearly_totals.proofs.Turns.{taken-month, not-taken-month, stays-then, then-length, totalsWith, month-goes-on, month-stops, month-ends}

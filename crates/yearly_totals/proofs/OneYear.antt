@@ -1,13 +1,13 @@
 -- One turn over a year: the first record is refused, or the records up to the end of the year are taken as the plain run takes them.
-use mathlib.Core.Path.{_≡_, refl, sym, ap, _∙_}
-use mathlib.Core.Bool.{Bool, true, false, cond, not, _&&_, _||_}
-use mathlib.Core.List.{List, [], _∷_, _++_}
-use Prim.Native.Nat.{ℕ, zero, suc, _+_, _-_, _*_, _/_, _%_, _^_, _≤_, _<_}
+use mathlib.Core.Path.{_≡_, refl, sym, _∙_}
+use mathlib.Core.Bool.{Bool, true, false, cond, _||_}
+use mathlib.Core.List.{List, [], _++_}
+use Prim.Native.Nat.{ℕ, _+_, _-_, _*_, _/_, _%_, _≤_, _<_}
 use native.Mathlib.Decide.{ℕ-discrete}
 use native.Mathlib.Omega.{arith}
-use borrow.Author.Tests.{ltb-true, ltb-false, lt-ltb, leb-true}
-use lib.Dec.{eqb, leb, ltb}
-use lib.ListN.{length, getD, take, drop, length-append, length-drop, length-take}
+use borrow.Author.Tests.{ltb-true, lt-ltb, leb-true}
+use lib.Dec.{leb, ltb}
+use lib.ListN.{length, take, drop, length-append, length-drop, length-take}
 use lib.Seq.{getD-take}
 use Rattle.numbers.proofs.Eight.{three-true, either-false}
 use Rattle.waste.specs.Kind.{isYearly}
@@ -16,17 +16,17 @@ use Rattle.carbon.specs.Carbon.{mostRecords}
 use Rattle.ledger.specs.Refusal.{refusalOf}
 use Rattle.ledger.specs.declared.book.Ledger.{Ledger}
 use Rattle.ledger.proofs.Accepted.{accepted-meets}
-use Rattle.run.specs.History.{outputs, workOver, recordsOf, Run, runOf, outOf, outcomeOf}
+use Rattle.run.specs.History.{outputs, recordsOf, Run, runOf, outOf, outcomeOf}
 use Rattle.run.specs.declared.Outcome.{Outcome}
-use Rattle.run.proofs.History.{first-record, no-records, begun-record, records-count, stopped, run-counts, run-within, outputs-length}
+use Rattle.run.proofs.History.{first-record, begun-record, records-count, stopped, run-counts, run-within, outputs-length}
 use Rattle.year_slots.specs.Slots.{totalsBytes, slotAt, differs}
 use Rattle.year_slots.specs.declared.Slot.{Slot}
 use Rattle.year_slots.specs.Months.{monthsAdded, MonthsFit}
-use Rattle.yearly_totals.specs.Months.{monthRefusal, totalsAfter, monthRunOf}
+use Rattle.yearly_totals.specs.Months.{monthRefusal, totalsAfter}
 use Rattle.yearly_totals.specs.YearRun.{asMonthly, slotRefuses, smallSum, areSmall, atOnce, recordsAtOnce, yearRun}
 use Rattle.yearly_totals.proofs.Refusals.{month-refused, refused-any, accepted-only}
 use Rattle.yearly_totals.proofs.Turns.{month-stops}
-use Rattle.yearly_totals.proofs.YearRun.{Ready, Monthly, TakenAtOnce, taken-at-once, kind-at}
+use Rattle.yearly_totals.proofs.YearRun.{SlotReady, Monthly, TakenAtOnce, taken-at-once, kind-at}
 
 module _ (l : Ledger) (totals left : List ℕ) (room : ℕ) (size : length totals ≡ totalsBytes) (some : 0 < length left) where
   abbrev bytes : List ℕ
@@ -79,14 +79,14 @@ module _ (l : Ledger) (totals left : List ℕ) (room : ℕ) (size : length total
     m = atOnce totals (l .n)
 
     -- the slot is ready for so many records
-    ready : (j : ℕ) → j ≤ m → Ready l totals j
+    ready : (j : ℕ) → j ≤ m → SlotReady l totals j
     unfolding atOnce areSmall
     ready j few = by (areSmall s) refl few
       where
         s : Slot
         s = slotAt totals (l .n / 12)
 
-        by : (small : Bool) → areSmall s ≡ small → j ≤ cond small (12 - l .n % 12) 1 → Ready l totals j
+        by : (small : Bool) → areSmall s ≡ small → j ≤ cond small (12 - l .n % 12) 1 → SlotReady l totals j
         by true t few =
             let p = three-true (leb (s .x0) smallSum) (leb (s .figure) smallSum) (leb (s .bound) smallSum) t in
             record {

@@ -41,8 +41,8 @@ least-room l bytes room = by (ltb room recordBytes) refl
     by false e = room-alike l bytes recordBytes room (omega arith) (ltb-false room recordBytes e)
 
 -- So the run of a first record alone has its refusal.
-pub first-run : (l : Ledger) (file : List ℕ) (room : ℕ) {part : List ℕ} {k : ℕ} → part ≡ take recordBytes file → k ≡ leastOf room recordBytes → 0 < length file
+pub first-alone : (l : Ledger) (file : List ℕ) (room : ℕ) {part : List ℕ} {k : ℕ} → part ≡ take recordBytes file → k ≡ leastOf room recordBytes → 0 < length file
     → runOf l (recordsOf part) k .refusal ≡ refusalOf l (take recordBytes file) room
-first-run l file room first lent some =
+first-alone l file room first lent some =
     let long = length-take recordBytes file in
     rw (first, lent) (begun-refusal l (take recordBytes file) (leastOf room recordBytes) (omega (arith, long)) (omega (arith, long)) ∙ least-room l (take recordBytes file) room)

@@ -1,5 +1,5 @@
 -- The refusal of a record follows from that of the plain step: 27 takes the place of the tests from 6 on, and 32 comes last.
-use mathlib.Core.Path.{_≡_, refl, sym, ap, _∙_}
+use mathlib.Core.Path.{_≡_, refl, sym, _∙_}
 use mathlib.Core.Bool.{Bool, true, false, cond, _&&_, _||_}
 use mathlib.Core.List.{List}
 use Prim.Native.Nat.{ℕ, zero, suc}
@@ -79,13 +79,13 @@ module _ (l : Ledger) (totals bytes : List ℕ) (room : ℕ) where
       → monthRefusal l totals bytes room ≡ 0
   month-taken size none y d = month-refused l totals bytes room size ∙ rw (none, y, d) accepted-none
 
-  pub record Taken : Type 0 where
+  pub record MonthTaken : Type 0 where
     pub size : length totals ≡ totalsBytes
     pub none : refusalOf l bytes room ≡ 0
     pub month : isYearly (kindOf bytes) ≡ false
     pub agrees : differs totals (periodOf bytes) ≡ false
 
-  pub taken-meets : monthRefusal l totals bytes room ≡ 0 → Taken
+  pub taken-meets : monthRefusal l totals bytes room ≡ 0 → MonthTaken
   taken-meets e =
       elim (ℕ-discrete (length totals) totalsBytes) [
         | yes size ↦

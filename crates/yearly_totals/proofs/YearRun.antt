@@ -1,22 +1,18 @@
 -- The records of a year, run as a plain file: where the slot is ready and its sums are small, the plain run takes what the steps take.
-use mathlib.Core.Path.{_≡_, refl, sym, ap, _∙_}
-use mathlib.Core.Bool.{Bool, true, false, not}
+use mathlib.Core.Path.{_≡_, refl, ap, _∙_}
+use mathlib.Core.Bool.{false}
 use mathlib.Core.List.{List, [], _∷_, _++_, append-assoc}
 use Prim.Native.Nat.{ℕ, zero, suc, _+_, _-_, _*_, _/_, _%_, _^_, _≤_, _<_}
 use native.Mathlib.Nat.{mul-zero}
 use native.Mathlib.Decide.{ℕ-discrete}
 use native.Mathlib.Omega.{arith}
-use lib.ListN.{length, getD, take, drop}
+use lib.ListN.{length, getD, drop}
 use lib.Seq.{drop-at, drop-drop, drop-nil, getD-take}
-use Rattle.numbers.specs.Bytes.{numberAt}
-use Rattle.numbers.specs.Eight.{sumOf}
-use Rattle.numbers.proofs.Eight.{eight-at, sum-same, sum-plus}
 use Rattle.waste.specs.Kind.{isYearly}
 use Rattle.record.specs.Fields.{recordBytes, periodOf, kindOf, factorsOf}
-use Rattle.carbon.specs.Carbon.{mostRecords}
 use Rattle.figure.specs.Figure.{BOf}
 use Rattle.figure.proofs.Laws.{figure-most, bound-half, B-most}
-use Rattle.ledger.specs.Step.{broughtAt, releasedAt, release, newReleased, x0Of, after}
+use Rattle.ledger.specs.Step.{broughtAt, x0Of, after}
 use Rattle.ledger.specs.Refusal.{refusalOf}
 use Rattle.ledger.specs.Take.{acceptedOf, outputRecord, outputFields, totalReleased}
 use Rattle.ledger.specs.declared.book.Ledger.{Ledger}
@@ -25,15 +21,15 @@ use Rattle.ledger.proofs.Accepted.{Accepted, accepted-meets, stays-sound}
 use Rattle.ledger.proofs.Fits.{output-says}
 use Rattle.ledger.proofs.Step.{released-grows}
 use Rattle.ledger.proofs.Take.{output-length}
-use Rattle.run.specs.History.{Turn, outputs, recordsOf, Run, runOf}
+use Rattle.run.specs.History.{outputs, recordsOf, Run, runOf}
 use Rattle.run.proofs.History.{no-records, first-record, acceptedTurn, onFrom, stopped, run-goes-on, run-stops, run-ends}
-use Rattle.year_slots.specs.Slots.{slotSize, totalsBytes, slotAt, withMonth, addedTo, sumLimit, differs}
-use Rattle.year_slots.specs.Months.{mostMonth, MonthFits, monthAdded, monthsAdded, MonthsFit}
+use Rattle.year_slots.specs.Slots.{totalsBytes, slotAt, withMonth, addedTo, sumLimit, differs}
+use Rattle.year_slots.specs.Months.{MonthFits, monthAdded, monthsAdded, MonthsFit}
 use Rattle.year_slots.specs.declared.Slot.{Slot}
-use Rattle.year_slots.proofs.Slots.{Small, slot-written, Agrees, agreed, agrees}
-use Rattle.yearly_totals.specs.Months.{totalsThen, totalsAfter, monthRunOf}
+use Rattle.year_slots.proofs.Slots.{SmallSlot, slot-written, Agrees, agreed, agrees}
+use Rattle.yearly_totals.specs.Months.{totalsAfter, monthRunOf}
 use Rattle.yearly_totals.specs.YearRun.{asMonthly}
-use Rattle.yearly_totals.proofs.Refusals.{month-refused, month-taken, refused-any, refused-some, accepted-none}
+use Rattle.yearly_totals.proofs.Refusals.{month-refused, month-taken, refused-any, refused-some}
 use Rattle.yearly_totals.proofs.Turns.{added-then, then-length, totalsWith, month-goes-on, month-stops, month-ends}
 
 -- What an accepted record brings to its slot. All x0 of a ledger add up to what it has released, which is below 3 × 10^18.
@@ -61,7 +57,7 @@ module _ (l : Ledger) (bytes : List ℕ) (a : Accepted l bytes) where
 
 -- The slot of the next record is ready for j records of a year: it agrees with n, and with more than one to come no sum of it can be
 -- above the limit before the last.
-pub record Ready (l : Ledger) (totals : List ℕ) (j : ℕ) : Type 0 where
+pub record SlotReady (l : Ledger) (totals : List ℕ) (j : ℕ) : Type 0 where
   pub size : length totals ≡ totalsBytes
   pub fits : 0 < j → differs totals (l .n + 1) ≡ false
   pub span : l .n % 12 + j ≤ 12
@@ -69,7 +65,7 @@ pub record Ready (l : Ledger) (totals : List ℕ) (j : ℕ) : Type 0 where
   pub figure : 1 < j → slotAt totals (l .n / 12) .figure + mostReleased ≤ sumLimit + totalReleased l
   pub bound : 1 < j → slotAt totals (l .n / 12) .bound + j * 2 ^ 44 ≤ sumLimit
 
-module _ (l : Ledger) (totals bytes : List ℕ) (room j : ℕ) (ok : refusalOf l bytes room ≡ 0) (h : Ready l totals (suc j)) where
+module _ (l : Ledger) (totals bytes : List ℕ) (room j : ℕ) (ok : refusalOf l bytes room ≡ 0) (h : SlotReady l totals (suc j)) where
   abbrev a : Accepted l bytes
   a = accepted-meets l bytes room ok
 
@@ -93,7 +89,7 @@ module _ (l : Ledger) (totals bytes : List ℕ) (room j : ℕ) (ok : refusalOf l
   pub does-agree : differs totals (periodOf bytes) ≡ false
   does-agree = rw (a .period) (h .fits (omega arith))
 
-  small : Small s′
+  small : SmallSlot s′
   unfolding withMonth
   small =
       let b = brings l bytes a in
@@ -133,7 +129,7 @@ module _ (l : Ledger) (totals bytes : List ℕ) (room j : ℕ) (ok : refusalOf l
   month-is rest = let o = output-says l bytes a rest in rw (added-is, o .x0, o .figure, o .bound)
 
   -- The slot is ready for the records after it.
-  pub still-ready : Ready (acceptedOf l bytes .ledger) (totalsWith totals l bytes) j
+  pub still-ready : SlotReady (acceptedOf l bytes .ledger) (totalsWith totals l bytes) j
   unfolding acceptedOf after withMonth
   still-ready =
       let b = brings l bytes a in
@@ -195,7 +191,7 @@ one-refused l totals bytes room xs size some =
       added = λ rest. refl;
     }
 
-one-more : (l : Ledger) (totals bytes : List ℕ) (room : ℕ) (xs : List (List ℕ)) (e : refusalOf l bytes room ≡ 0) → Ready l totals (suc (length xs)) → isYearly (kindOf bytes) ≡ false
+one-more : (l : Ledger) (totals bytes : List ℕ) (room : ℕ) (xs : List (List ℕ)) (e : refusalOf l bytes room ≡ 0) → SlotReady l totals (suc (length xs)) → isYearly (kindOf bytes) ≡ false
     → (r : Run) → TakenAtOnce (acceptedOf l bytes .ledger) (totalsWith totals l bytes) xs (room - recordBytes) r
     → TakenAtOnce l totals (bytes ∷ xs) room (onFrom (acceptedTurn l bytes ∷ []) r)
 unfolding MonthsFit monthsAdded outputs totalsAfter acceptedOf after
@@ -220,7 +216,7 @@ one-more l totals bytes room xs e h month r on =
           rw (append-assoc o (outputs (r .accepted)) rest) step;
     }
 
-pub taken-at-once : (xs : List (List ℕ)) (l : Ledger) (totals : List ℕ) (room : ℕ) → Ready l totals (length xs) → Monthly l xs room
+pub taken-at-once : (xs : List (List ℕ)) (l : Ledger) (totals : List ℕ) (room : ℕ) → SlotReady l totals (length xs) → Monthly l xs room
     → TakenAtOnce l totals xs room (runOf l xs room)
 taken-at-once [] l totals room h m = rw (run-ends l room) (none-taken l totals room (h .size))
 taken-at-once (bytes ∷ xs) l totals room h m =

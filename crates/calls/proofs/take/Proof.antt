@@ -1,5 +1,5 @@
 -- The step on the part that is lent decides; the answer and the image follow it.
-use mathlib.Core.Path.{_≡_, refl, sym, ap, _∙_}
+use mathlib.Core.Path.{_≡_, sym, ap, _∙_}
 use mathlib.Core.List.{List, _++_}
 use Prim.Native.Nat.{ℕ}
 use native.Mathlib.Omega.{arith}
@@ -7,7 +7,7 @@ use borrow.Author.Needs.{needs}
 use denote.Ref.{now}
 use lib.ListN.{length, drop}
 use Rattle.ledger.specs.declared.answer.Answer.{Answer}
-use Rattle.calls.specs.Calls.{answered, imageThen, takeHere, takeImage, takeOut, takeAnswer}
+use Rattle.calls.specs.Calls.{answered, takeHere, takeImage, takeOut, takeAnswer}
 use Rattle.calls.proofs.Takes.{room-most, part-length, step-is, output-left, image-of, image-next, image-stays}
 use Rattle.calls.proofs.take.Statement.{statement}
 use Rattle.calls.proofs.take.Tie as tie

@@ -1,12 +1,11 @@
 -- `MidMonths` holds at the head of the loop; each turn and the end is a law of it.
-use mathlib.Core.Path.{_≡_, refl, ap}
+use mathlib.Core.Path.{_≡_, refl}
 use mathlib.Core.List.{List}
-use Prim.Native.Nat.{ℕ, suc, _+_, _-_, _*_, _≤_, _<_}
+use Prim.Native.Nat.{ℕ, suc, _-_}
 use native.Mathlib.Omega.{arith}
 use borrow.Author.Needs.{needs}
 use lib.ListN.{length, drop, take, length-drop}
 use lib.Seq.{take-all}
-use Rattle.year_slots.specs.Months.{monthAdded}
 use Rattle.year_slots.proofs.Months.{MidMonths, months-on, months-end}
 use Rattle.year_slots.proofs.add_months.Statement.{statement}
 use Rattle.year_slots.proofs.add_months.Tie as tie

@@ -1,5 +1,4 @@
 -- The slot that is read decides.
-use mathlib.Core.Path.{refl}
 use native.Mathlib.Omega.{arith}
 use borrow.Author.Needs.{needs}
 use Rattle.yearly_totals.specs.YearRun.{areSmall, atOnce}

@@ -1,15 +1,14 @@
 -- The run of the first record alone has its refusal, and room for one output record is all that it needs.
-use mathlib.Core.Path.{_≡_, refl, sym, ap, _∙_}
+use mathlib.Core.Path.{_≡_, sym, ap, _∙_}
 use mathlib.Core.List.{List}
-use Prim.Native.Nat.{ℕ, _≤_}
-use native.Mathlib.Omega.{arith}
+use Prim.Native.Nat.{ℕ}
 use borrow.Author.Needs.{needs}
 use lib.ListN.{length, take, replicate}
 use lib.Seq.{length-take-le}
 use Rattle.record.specs.Fields.{recordBytes}
 use Rattle.run.specs.History.{outcomeOf}
 use Rattle.run.specs.declared.Outcome.{Outcome}
-use Rattle.yearly_totals.proofs.Parts.{least-most, least-part, first-run}
+use Rattle.yearly_totals.proofs.Parts.{least-most, least-part, first-alone}
 use Rattle.yearly_totals.proofs.year.first_refusal.Statement.{statement}
 use Rattle.yearly_totals.proofs.year.first_refusal.Tie as tie
 
@@ -28,7 +27,7 @@ returns c =
     let s = c .before .before .before .before .before .before .before in
     let file = s .args .records .now in
     ap (λ (o : Outcome). o .refusal) (c .before .run .ensures .0)
-    ∙ first-run (s .args .ledger) file (s .args .room) (ap (λ (k : ℕ). take k file) (size .ensures) ∙ least-part file recordBytes) (lent-long (c .before .before) ∙ lent .ensures) (s .pre)
+    ∙ first-alone (s .args .ledger) file (s .args .room) (ap (λ (k : ℕ). take k file) (size .ensures) ∙ least-part file recordBytes) (lent-long (c .before .before) ∙ lent .ensures) (s .pre)
 
 pub first-refusal-spec : {M : Type 1} → statement M
 first-refusal-spec =

@@ -1,6 +1,5 @@
 -- The one test.
 use borrow.Author.Tests.{lt-ltb, le-ltb}
-use borrow.Author.Needs.{needs}
 use Rattle.yearly_totals.specs.YearRun.{leastOf}
 use Rattle.yearly_totals.proofs.year.least.Statement.{statement}
 use Rattle.yearly_totals.proofs.year.least.Tie as tie

@@ -1,6 +1,6 @@
 -- Either the first record is refused, or the records up to the end of the year are taken as `taken-at-once` has it.
 use mathlib.Core.Path.{_≡_, refl, sym, ap, _∙_}
-use mathlib.Core.Bool.{true, false, _||_}
+use mathlib.Core.Bool.{false, _||_}
 use mathlib.Core.List.{List}
 use Prim.Native.Nat.{ℕ, _-_, _*_, _≤_}
 use native.Mathlib.Omega.{arith}
@@ -11,11 +11,10 @@ use lib.Seq.{length-take-le, take-all}
 use Rattle.waste.specs.Kind.{isYearly}
 use Rattle.record.specs.Fields.{recordBytes, kindOf}
 use Rattle.run.specs.History.{outputs, workOver, Run, outOf, outcomeOf}
-use Rattle.run.specs.declared.Outcome.{Outcome}
 use Rattle.yearly_totals.specs.Months.{totalsAfter}
 use Rattle.yearly_totals.specs.YearRun.{leastOf, slotRefuses, atOnce}
 use Rattle.yearly_totals.proofs.Parts.{least-most, least-part}
-use Rattle.yearly_totals.proofs.OneYear.{year-refused, has-slot, part, ran, fits-all, can-add, year-ends}
+use Rattle.yearly_totals.proofs.OneYear.{year-refused, has-slot, ran, fits-all, can-add, year-ends}
 use Rattle.yearly_totals.proofs.year.run_year.Statement.{statement}
 use Rattle.yearly_totals.proofs.year.run_year.Tie as tie
 

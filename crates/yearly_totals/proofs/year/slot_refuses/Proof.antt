@@ -1,5 +1,4 @@
 -- A full ledger has no next month.
-use mathlib.Core.Path.{_∙_, sym}
 use borrow.Author.Needs.{needs}
 use borrow.Author.Tests.{lt-ltb, le-ltb}
 use Rattle.yearly_totals.specs.YearRun.{slotRefuses}
