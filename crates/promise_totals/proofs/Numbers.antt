@@ -51,7 +51,7 @@ module _ (q : ℕ) (y d : Bool) (small : q ≤ 17) where
       by true e = e
       by false e = refl
 
--- Nothing ahead of 6 refuses a record where its refusal is 0 or above 5.
+-- No test before 6 refuses a record whose refusal is 0 or above 5.
 module _ (l : Ledger) (bytes : List ℕ) (room : ℕ) where
   abbrev faults : List Fault
   faults = faultsOf (sound l) (l .n) (l .kind) (l .climate) (l .year) bytes room
@@ -91,13 +91,15 @@ module _ (totals : List ℕ) (p : ℕ) where
       let a = agreed totals n e′ in
       let well = counts-well totals n a in
       record {
-        months = a .months;
-        x0 = a .x0;
-        figure = a .figure;
-        bound = a .bound;
-        begun = λ some. eqb-true (slotAt totals (n / 12) .year) (n / 12 + 1) (not-false (eqb (slotAt totals (n / 12) .year) (n / 12 + 1)) (sym (differs-some totals n well (λ z. omega (arith, some, z))) ∙ e′));
+        months = omega (arith, a .months);
+        x0 = omega (arith, a .x0);
+        figure = omega (arith, a .figure);
+        bound = omega (arith, a .bound);
+        begun = λ some.
+            let year = eqb-true (slotAt totals (n / 12) .year) (n / 12 + 1) (not-false (eqb (slotAt totals (n / 12) .year) (n / 12 + 1)) (sym (differs-some totals n well (λ z. omega (arith, some, z))) ∙ e′)) in
+            omega (arith, year);
         blank = λ z i h. eqb-true (getD totals (32 * (n / 12) + i) 0) 0
-            (every-at (λ i. eqb (getD totals (slotSize * (n / 12) + i) 0) 0) slotSize i h (not-false (isBlank totals (n / 12)) (sym (differs-none totals n well z) ∙ e′)));
+            (every-at (λ i. eqb (getD totals (slotSize * (n / 12) + i) 0) 0) slotSize i (omega arith) (not-false (isBlank totals (n / 12)) (sym (differs-none totals n well z) ∙ e′)));
       }
 
   pub is-fit : SlotFits totals p → differs totals p ≡ false
@@ -105,6 +107,8 @@ module _ (totals : List ℕ) (p : ℕ) where
   is-fit f =
       same-slot
       ∙ elim (ℕ-discrete (n % 12) 0) [
-        | yes z ↦ agrees-blank totals n z (every-each (λ i. eqb (getD totals (slotSize * (n / 12) + i) 0) 0) slotSize (λ i h. eq-eqb (getD totals (32 * (n / 12) + i) 0) 0 (f .blank (f .months ∙ z) i h)))
-        | no z ↦ agrees totals n (record { months = f .months; x0 = f .x0; figure = f .figure; bound = f .bound }) z (f .begun (omega (arith, f .months, z)))
+        | yes z ↦ agrees-blank totals n z (every-each (λ i. eqb (getD totals (slotSize * (n / 12) + i) 0) 0) slotSize (λ i h. eq-eqb (getD totals (32 * (n / 12) + i) 0) 0 (f .blank (omega (arith, f .months, z)) i (omega arith))))
+        | no z ↦
+            agrees totals n (record { months = omega (arith, f .months); x0 = omega (arith, f .x0); figure = omega (arith, f .figure); bound = omega (arith, f .bound) }) z
+            (let year = f .begun (omega (arith, f .months, z)) in omega (arith, year))
       ]
