@@ -11,118 +11,118 @@ use lib.ListN.{length, drop, get_or, replicate}
 use lib.Seq.{sets, take_at, get_or-take}
 use Rattle.numbers.specs.Eight.{eight}
 use Rattle.numbers.specs.Lists.{Each}
-use Rattle.numbers.proofs.Eight.{eight-same, either-false}
+use Rattle.numbers.proofs.Eight.{eight_same, either_false}
 use Rattle.numbers.proofs.Lists.{each_at}
-use Rattle.record.specs.Fields.{recordBytes}
-use Rattle.ledger.specs.Step.{fresh, stockAt}
-use Rattle.run.specs.History.{recordsOf, wholeRun}
-use Rattle.ledger.proofs.Accepted.{fresh-stock}
-use Rattle.run.proofs.History.{Counts, records-join, run-counts, run-whole}
-use Rattle.by_type.specs.Columns.{nine, columnEntry, columnAfter, columnsAfter, anyShort, columnFaults, columnsOf, filledOf}
-use Rattle.by_type.specs.Alone.{HasPlaces, releasesAlone, stockAlone, filledFrom, fourStocks}
-use Rattle.by_type.specs.Across.{HoldsReleases, figuresAcross}
-use Rattle.by_type.proofs.Alone.{releaseIn, figureIn, IsLedgers, alone-is-ledgers, releases-length, HoldFrom, figures-are-ledgers}
+use Rattle.record.specs.Fields.{record_bytes}
+use Rattle.ledger.specs.Step.{fresh, stock_at}
+use Rattle.run.specs.History.{records_of, whole_run}
+use Rattle.ledger.proofs.Accepted.{fresh_stock}
+use Rattle.run.proofs.History.{Counts, records_join, run_counts, run_whole}
+use Rattle.by_type.specs.Columns.{nine, column_entry, column_after, columns_after, any_short, column_faults, columns_of, filled_of}
+use Rattle.by_type.specs.Alone.{HasPlaces, releases_alone, stock_alone, filled_from, four_stocks}
+use Rattle.by_type.specs.Across.{HoldsReleases, figures_across}
+use Rattle.by_type.proofs.Alone.{release_in, figure_in, IsLedgers, alone_is_ledgers, releases_length, HoldFrom, figures_are_ledgers}
 
 -- What the first eight columns have of an answer is the release of their type.
-pub column-of-type : (t : ℕ) → t < 8 → columnEntry t ≡ releaseIn t
-unfolding columnEntry
-column-of-type t place = λ i turn. cond (lt-ltb t 8 place i) (releaseIn t turn) (figureIn turn)
+pub column_of_type : (t : ℕ) → t < 8 → column_entry t ≡ release_in t
+unfolding column_entry
+column_of_type t place = λ i turn. cond (lt-ltb t 8 place i) (release_in t turn) (figure_in turn)
 
-module _ (file : List ℕ) (none : (wholeRun file).refusal ≡ 0) where
-  counts : Counts fresh (recordsOf file) (wholeRun file)
-  unfolding wholeRun fresh
-  counts = run-counts fresh (recordsOf file) (recordBytes * length (recordsOf file)) (omega arith)
+module _ (file : List ℕ) (none : (whole_run file).refusal ≡ 0) where
+  counts : Counts fresh (records_of file) (whole_run file)
+  unfolding whole_run fresh
+  counts = run_counts fresh (records_of file) (record_bytes * length (records_of file)) (omega arith)
 
   -- The accepted records are the file's bytes.
-  pub file-whole : recordBytes * length (wholeRun file).accepted ≡ length file
-  unfolding wholeRun
-  file-whole =
-      omega (arith, counts.all none, run-whole (length file) file (omega arith) fresh (recordBytes * length (recordsOf file)) none)
+  pub file_whole : record_bytes * length (whole_run file).accepted ≡ length file
+  unfolding whole_run
+  file_whole =
+      omega (arith, counts.all none, run_whole (length file) file (omega arith) fresh (record_bytes * length (records_of file)) none)
 
-  module _ (n : ℕ) (whole : recordBytes * n ≡ length file) where
-    accepted-n : length (wholeRun file).accepted ≡ n
-    accepted-n = omega (arith, file-whole, whole)
+  module _ (n : ℕ) (whole : record_bytes * n ≡ length file) where
+    accepted_n : length (whole_run file).accepted ≡ n
+    accepted_n = omega (arith, file_whole, whole)
 
-    alone : (t : ℕ) → t < 8 → IsLedgers t fresh (recordsOf file) (recordBytes * length (recordsOf file))
-    unfolding wholeRun
-    alone t place = alone-is-ledgers t place fresh (recordsOf file) (recordBytes * length (recordsOf file)) none
+    alone : (t : ℕ) → t < 8 → IsLedgers t fresh (records_of file) (record_bytes * length (records_of file))
+    unfolding whole_run
+    alone t place = alone_is_ledgers t place fresh (records_of file) (record_bytes * length (records_of file)) none
 
-    stock-is : (t : ℕ) → t < 8 → stockAlone t 0 (recordsOf file) ≡ stockAt (wholeRun file).ledger t
-    unfolding wholeRun
-    stock-is t place = rw (fresh-stock t place) at (alone t place).stock
+    stock_is : (t : ℕ) → t < 8 → stock_alone t 0 (records_of file) ≡ stock_at (whole_run file).ledger t
+    unfolding whole_run
+    stock_is t place = rw (fresh_stock t place) at (alone t place).stock
 
-    pub stocks-are : {half stocks : List ℕ} → half ≡ sets (replicate 8 0) 0 (fourStocks file 0) → stocks ≡ sets half 4 (fourStocks file 4)
-        → stocks ≡ eight (stockAt (wholeRun file).ledger)
-    stocks-are e f = f ∙ rw e (eight-same (λ t. stockAlone t 0 (recordsOf file)) (stockAt (wholeRun file).ledger) stock-is)
+    pub stocks_are : {half stocks : List ℕ} → half ≡ sets (replicate 8 0) 0 (four_stocks file 0) → stocks ≡ sets half 4 (four_stocks file 4)
+        → stocks ≡ eight (stock_at (whole_run file).ledger)
+    stocks_are e f = f ∙ rw e (eight_same (λ t. stock_alone t 0 (records_of file)) (stock_at (whole_run file).ledger) stock_is)
 
-    column-is : (t : ℕ) → t < 8 → (column : List ℕ) → releasesAlone t 0 (recordsOf file) ++ drop n column ≡ columnAfter t (wholeRun file).accepted column
-    unfolding columnAfter wholeRun
-    column-is t place column = rw (accepted-n, column-of-type t place, rw (fresh-stock t place) at (alone t place).releases)
+    column_is : (t : ℕ) → t < 8 → (column : List ℕ) → releases_alone t 0 (records_of file) ++ drop n column ≡ column_after t (whole_run file).accepted column
+    unfolding column_after whole_run
+    column_is t place column = rw (accepted_n, column_of_type t place, rw (fresh_stock t place) at (alone t place).releases)
 
-    holds-releases : (t : ℕ) (column : List ℕ) → HoldsReleases file n t (releasesAlone t 0 (recordsOf file) ++ drop n column)
-    holds-releases t column =
-        take_at (releasesAlone t 0 (recordsOf file)) (drop n column) n (releases-length t 0 (recordsOf file) ∙ (records-join n file [] (sym whole)).1)
+    holds_releases : (t : ℕ) (column : List ℕ) → HoldsReleases file n t (releases_alone t 0 (records_of file) ++ drop n column)
+    holds_releases t column =
+        take_at (releases_alone t 0 (records_of file)) (drop n column) n (releases_length t 0 (records_of file) ∙ (records_join n file [] (sym whole)).1)
 
     -- Columns that are filled hold their releases, and are the history's.
-    all_hold : (t : ℕ) (columns : List (List ℕ)) {now : List (List ℕ)} → now ≡ filledFrom file n t columns → Each (HoldsReleases file n) t now
+    all_hold : (t : ℕ) (columns : List (List ℕ)) {now : List (List ℕ)} → now ≡ filled_from file n t columns → Each (HoldsReleases file n) t now
     all_hold t columns e = rw e (each t columns)
       where
-        each : (t : ℕ) (columns : List (List ℕ)) → Each (HoldsReleases file n) t (filledFrom file n t columns)
+        each : (t : ℕ) (columns : List (List ℕ)) → Each (HoldsReleases file n) t (filled_from file n t columns)
         each t [] = tt
-        each t (column ∷ rest) = (holds-releases t column, each (t + 1) rest)
+        each t (column ∷ rest) = (holds_releases t column, each (t + 1) rest)
 
-    columns-are : (t : ℕ) (columns : List (List ℕ)) → t + length columns ≤ 8 → filledFrom file n t columns ≡ columnsAfter t (wholeRun file).accepted columns
-    columns-are t [] few = refl
-    columns-are t (column ∷ rest) few = rw (column-is t (omega arith) column, columns-are (t + 1) rest (omega arith))
+    columns_are : (t : ℕ) (columns : List (List ℕ)) → t + length columns ≤ 8 → filled_from file n t columns ≡ columns_after t (whole_run file).accepted columns
+    columns_are t [] few = refl
+    columns_are t (column ∷ rest) few = rw (column_is t (omega arith) column, columns_are (t + 1) rest (omega arith))
 
     -- Two halves of four columns, filled, and the figures.
     module _ (a b c d e f g h : List ℕ) {xs ys : List (List ℕ)}
-        (first : xs ≡ filledFrom file n 0 (a ∷ b ∷ c ∷ d ∷ [])) (last : ys ≡ filledFrom file n 4 (e ∷ f ∷ g ∷ h ∷ [])) where
-      pub halves-hold : Each (HoldsReleases file n) 0 (xs ++ ys)
-      halves-hold = all_hold 0 (a ∷ b ∷ c ∷ d ∷ e ∷ f ∷ g ∷ h ∷ []) {now = xs ++ ys} (rw (first, last))
+        (first : xs ≡ filled_from file n 0 (a ∷ b ∷ c ∷ d ∷ [])) (last : ys ≡ filled_from file n 4 (e ∷ f ∷ g ∷ h ∷ [])) where
+      pub halves_hold : Each (HoldsReleases file n) 0 (xs ++ ys)
+      halves_hold = all_hold 0 (a ∷ b ∷ c ∷ d ∷ e ∷ f ∷ g ∷ h ∷ []) {now = xs ++ ys} (rw (first, last))
 
-      pub nine-are : (k : List ℕ) {figures : List ℕ} → figures ≡ columnAfter 8 (wholeRun file).accepted k
-          → xs ++ ys ++ (figures ∷ []) ≡ columnsAfter 0 (wholeRun file).accepted (nine a b c d e f g h k)
-      nine-are k r =
-          let wood-on = first ∙ columns-are 0 (a ∷ b ∷ c ∷ d ∷ []) (omega arith) in
-          let garden-on = last ∙ columns-are 4 (e ∷ f ∷ g ∷ h ∷ []) (omega arith) in
+      pub nine_are : (k : List ℕ) {figures : List ℕ} → figures ≡ column_after 8 (whole_run file).accepted k
+          → xs ++ ys ++ (figures ∷ []) ≡ columns_after 0 (whole_run file).accepted (nine a b c d e f g h k)
+      nine_are k r =
+          let wood-on = first ∙ columns_are 0 (a ∷ b ∷ c ∷ d ∷ []) (omega arith) in
+          let garden-on = last ∙ columns_are 4 (e ∷ f ∷ g ∷ h ∷ []) (omega arith) in
           rw (wood-on, garden-on, r)
 
     module _ (columns : List (List ℕ)) (size : length columns ≡ 8) (each : Each (HoldsReleases file n) 0 columns) where
-      hold-from : HoldFrom columns 0 fresh (recordsOf file)
-      hold-from t place j near =
+      hold_from : HoldFrom columns 0 fresh (records_of file)
+      hold_from t place j near =
           let holds : HoldsReleases file n t (get_or columns t []) = rw zero-add at (each_at (HoldsReleases file n) 0 columns [] each t (omega (arith, size))) in
-          rw (zero-add j, fresh-stock t place)
-          (sym (get_or-take n (get_or columns t []) j 0 (omega (arith, near, (records-join n file [] (sym whole)).1))) ∙ ap (λ (xs : List ℕ). get_or xs j 0) holds)
+          rw (zero-add j, fresh_stock t place)
+          (sym (get_or-take n (get_or columns t []) j 0 (omega (arith, near, (records_join n file [] (sym whole)).1))) ∙ ap (λ (xs : List ℕ). get_or xs j 0) holds)
 
-      pub figures-is : (figures : List ℕ) {filled : List ℕ} → filled ≡ figuresAcross columns 0 (recordsOf file) ++ drop n figures
-          → filled ≡ columnAfter 8 (wholeRun file).accepted figures
-      unfolding columnAfter columnEntry wholeRun
-      figures-is figures e =
-          e ∙ rw (accepted-n, figures-are-ledgers columns 0 fresh (recordsOf file) (recordBytes * length (recordsOf file)) none hold-from)
+      pub figures_is : (figures : List ℕ) {filled : List ℕ} → filled ≡ figures_across columns 0 (records_of file) ++ drop n figures
+          → filled ≡ column_after 8 (whole_run file).accepted figures
+      unfolding column_after column_entry whole_run
+      figures_is figures e =
+          e ∙ rw (accepted_n, figures_are_ledgers columns 0 fresh (records_of file) (record_bytes * length (records_of file)) none hold_from)
 
 -- Where no column is short, each has a place for each record.
-pub have-places : (n t : ℕ) (columns : List (List ℕ)) → anyShort n columns ≡ false → Each (HasPlaces n) t columns
-have-places n t [] e = tt
-have-places n t (column ∷ rest) e =
-    let both = either-false (ltb (length column) n) (anyShort n rest) e in
-    (ltb-false (length column) n both.0, have-places n (t + 1) rest both.1)
+pub have_places : (n t : ℕ) (columns : List (List ℕ)) → any_short n columns ≡ false → Each (HasPlaces n) t columns
+have_places n t [] e = tt
+have_places n t (column ∷ rest) e =
+    let both = either_false (ltb (length column) n) (any_short n rest) e in
+    (ltb-false (length column) n both.0, have_places n (t + 1) rest both.1)
 
 -- The three ways out: the first engine refuses, a column is short, or the columns are filled.
 module _ (file : List ℕ) (columns : List (List ℕ)) where
   abbrev Left : (refusal : ℕ) (stocks : List ℕ) → List (List ℕ) → Type 0
-  Left refusal stocks now = (record { refusal = refusal; stocks = stocks } ≡ filledOf file columns) × (now ≡ columnsOf file columns)
+  Left refusal stocks now = (record { refusal = refusal; stocks = stocks } ≡ filled_of file columns) × (now ≡ columns_of file columns)
 
-  pub refused-first : {q : ℕ} → q ≡ (wholeRun file).refusal → (q ≡ 0 → ⊥) → Left q (eight (λ t. 0)) columns
-  unfolding filledOf columnsOf columnFaults
-  refused-first {q} e some = let no = ne_eqb q 0 some in rw (← e) (simp no (refl, refl))
+  pub refused_first : {q : ℕ} → q ≡ (whole_run file).refusal → (q ≡ 0 → ⊥) → Left q (eight (λ t. 0)) columns
+  unfolding filled_of columns_of column_faults
+  refused_first {q} e some = let no = ne_eqb q 0 some in rw (← e) (simp no (refl, refl))
 
-  module _ (none : (wholeRun file).refusal ≡ 0) where
-    pub refused-short : anyShort (length (wholeRun file).accepted) columns ≡ true → Left 26 (eight (λ t. 0)) columns
-    unfolding filledOf columnsOf columnFaults
-    refused-short short = rw (none, short) (refl, refl)
+  module _ (none : (whole_run file).refusal ≡ 0) where
+    pub refused_short : any_short (length (whole_run file).accepted) columns ≡ true → Left 26 (eight (λ t. 0)) columns
+    unfolding filled_of columns_of column_faults
+    refused_short short = rw (none, short) (refl, refl)
 
-    pub filled-well : anyShort (length (wholeRun file).accepted) columns ≡ false → {stocks : List ℕ} {now : List (List ℕ)}
-        → stocks ≡ eight (stockAt (wholeRun file).ledger) → now ≡ columnsAfter 0 (wholeRun file).accepted columns → Left 0 stocks now
-    unfolding filledOf columnsOf columnFaults
-    filled-well long s n = rw (none, long, s, n) (refl, refl)
+    pub filled_well : any_short (length (whole_run file).accepted) columns ≡ false → {stocks : List ℕ} {now : List (List ℕ)}
+        → stocks ≡ eight (stock_at (whole_run file).ledger) → now ≡ columns_after 0 (whole_run file).accepted columns → Left 0 stocks now
+    unfolding filled_of columns_of column_faults
+    filled_well long s n = rw (none, long, s, n) (refl, refl)

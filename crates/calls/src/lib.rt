@@ -2,8 +2,8 @@
 // hand their buffers over to it: 'One step' of document 01, and its last paragraph.
 ghost use Rattle.std.specs.Prelude.{◌≡◌, length};
 ghost use Rattle.ledger.specs.Take.{take_of, written_of};
-ghost use Rattle.run.specs.History.{out_of, workOver};
-ghost use Rattle.calls.specs.Calls.{answered, roomOf, takeHere, takeImage, takeOut, takeAnswer, runHere, runImage};
+ghost use Rattle.run.specs.History.{out_of, work_over};
+ghost use Rattle.calls.specs.Calls.{answered, room_of, take_here, take_image, take_out, take_answer, run_here, run_image};
 
 use ledger::{Answer, Ledger};
 
@@ -26,7 +26,7 @@ pub fn write_answer(out: &mut [u8], answer: Answer)
 
 // Answers the room for the output record: none where the answer has no room.
 pub fn room(out: usize, answer: usize) -> usize
-    ensures { result ≡ roomOf out answer }
+    ensures { result ≡ room_of out answer }
 {
     if answer < ANSWER_BYTES { 0 } else { out }
 }
@@ -59,10 +59,10 @@ fn take_one(ledger: Ledger, bytes: &[u8], out: &mut [u8]) -> Answer
 
 // Takes one record: the image, the output and the answer are written, or the refusal's number comes back.
 pub fn take(image: &mut [u8], record: &[u8], out: &mut [u8], answer: &mut [u8]) -> u8
-    ensures value { result ≡ (takeHere image.old «record».now out.old answer.old).refusal }
-    ensures image_after { image.new ≡ takeImage image.old «record».now out.old answer.old }
-    ensures out_after { out.new ≡ takeOut image.old «record».now out.old answer.old }
-    ensures answer_after { answer.new ≡ takeAnswer image.old «record».now out.old answer.old }
+    ensures value { result ≡ (take_here image.old «record».now out.old answer.old).refusal }
+    ensures image_after { image.new ≡ take_image image.old «record».now out.old answer.old }
+    ensures out_after { out.new ≡ take_out image.old «record».now out.old answer.old }
+    ensures answer_after { answer.new ≡ take_answer image.old «record».now out.old answer.old }
 {
     let room = room(out.len(), answer.len());
     let taken = take_one(image::read(image), record, &mut out[..room]);
@@ -84,11 +84,11 @@ pub fn run(
     accepted: &mut u64,
     work: &mut u64,
 ) -> u8
-    ensures value { result ≡ (runHere image.old records.now (length out.old)).refusal }
-    ensures image_after { image.new ≡ runImage image.old (runHere image.old records.now (length out.old)) }
-    ensures out_after { out.new ≡ out_of (runHere image.old records.now (length out.old)) out.old }
-    ensures accepted_after { accepted.new ≡ length (runHere image.old records.now (length out.old)).accepted }
-    ensures work_after { work.new ≡ workOver (runHere image.old records.now (length out.old)).accepted }
+    ensures value { result ≡ (run_here image.old records.now (length out.old)).refusal }
+    ensures image_after { image.new ≡ run_image image.old (run_here image.old records.now (length out.old)) }
+    ensures out_after { out.new ≡ out_of (run_here image.old records.now (length out.old)) out.old }
+    ensures accepted_after { accepted.new ≡ length (run_here image.old records.now (length out.old)).accepted }
+    ensures work_after { work.new ≡ work_over (run_here image.old records.now (length out.old)).accepted }
 {
     let end = run::run(image::read(image), records, out);
     *accepted = end.accepted;

@@ -1,17 +1,17 @@
 // The carbon of one type and of all eight, as lists: table entries, what a period leaves, what so many records can bring, and sums.
 // It serves 'One step' and refusal 3 of document 01; the crates above call it, and no user. Place 0 of a list is type 1.
 ghost use Rattle.std.specs.Prelude.{◌≡◌, ℕ, ◌+◌, ◌-◌, ◌%◌, ◌^◌, ◌<◌, ◌≤◌, ◌&&◌, nat_le, slice_index, slice_index_or};
-ghost use Rattle.numbers.specs.Eight.{eight, sum_of, everyOf};
-ghost use Rattle.decay.specs.Series.{atRate};
-ghost use Rattle.waste.specs.Waste.{rateOf};
-ghost use Rattle.carbon.specs.Carbon.{mostRecords, entry_at, left_of, ceilingOf, withinOf};
+ghost use Rattle.numbers.specs.Eight.{eight, sum_of, every_of};
+ghost use Rattle.decay.specs.Series.{at_rate};
+ghost use Rattle.waste.specs.Waste.{rate_of};
+ghost use Rattle.carbon.specs.Carbon.{most_records, entry_at, left_of, ceiling_of, within_of};
 
 // The most records that a ledger takes.
 pub const RECORDS: u16 = 1200;
 
 // Answers what a table has for eight rates.
 fn rated(table: &[u32], rates: [u16; 8]) -> [u32; 8]
-    ensures { result ≡ eight (λ t. atRate table.now (slice_index rates t)) }
+    ensures { result ≡ eight (λ t. at_rate table.now (slice_index rates t)) }
 {
     let mut found = [0u32; 8];
     for t in 0..8 {
@@ -23,7 +23,7 @@ fn rated(table: &[u32], rates: [u16; 8]) -> [u32; 8]
 // Answers what a table has for the eight types in a climate. Each climate is written out, so that its rates are known before the
 // program runs, and only their entries of a table are stored.
 fn in_climate(table: &[u32], climate: u8) -> [u32; 8]
-    ensures { result ≡ eight (λ t. atRate table.now (rateOf (t + 1) climate)) }
+    ensures { result ≡ eight (λ t. at_rate table.now (rate_of (t + 1) climate)) }
 {
     match climate {
         1 => rated(table, waste::rates(1)),
@@ -65,8 +65,8 @@ pub fn less(of: [u64; 8], by: [u64; 8]) -> [u64; 8]
 // Tells whether T of place t is within what n records can bring, and made up of R and what was released. A sum that 64 bits do
 // not hold comes out below R, so that with R at most T no wrapped sum is T.
 fn is_within(n: u64, brought: u64, left: u64, released: u64, t: usize) -> bool
-    requires { (n ≤ mostRecords) × (t < 8) }
-    ensures { result ≡ withinOf n brought left released t }
+    requires { (n ≤ most_records) × (t < 8) }
+    ensures { result ≡ within_of n brought left released t }
 {
     let ceiling = n * waste::MASS_LIMIT * waste::carbon(t as u8 + 1, waste::MOST_DRY) as u64 * 100;
     if brought > ceiling {
@@ -85,8 +85,8 @@ pub fn are_within<'a>(
     left: &'a [u64; 8],
     released: &'a [u64; 8],
 ) -> bool
-    ensures { result ≡ (nat_le n mostRecords
-        && everyOf (λ t. withinOf n (slice_index brought.now t) (slice_index left.now t) (slice_index released.now t) t) 8) }
+    ensures { result ≡ (nat_le n most_records
+        && every_of (λ t. within_of n (slice_index brought.now t) (slice_index left.now t) (slice_index released.now t) t) 8) }
 {
     if n > RECORDS {
         return false;

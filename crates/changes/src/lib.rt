@@ -1,9 +1,9 @@
 // The report of a repair as text, on standard output: a line for each record that changed. The program `repair` calls it.
 // What is written no contract can say; the text of a line is proved.
 ghost use Rattle.std.specs.Prelude.{◌+◌, ◌≤◌, length};
-ghost use Rattle.line.specs.Line.{decimalOf};
+ghost use Rattle.line.specs.Line.{decimal_of};
 ghost use Rattle.line.specs.Writing.{Writes};
-ghost use Rattle.changes.specs.Report.{placesText, recordText};
+ghost use Rattle.changes.specs.Report.{places_text, record_text};
 
 use libc::STDOUT_FILENO;
 
@@ -22,7 +22,7 @@ fn put(line: &mut [u8], at: usize, word: &[u8]) -> usize
 // Writes a number in plain decimal from a place on, and answers the place after it.
 fn put_number(line: &mut [u8], at: usize, n: u64) -> usize
     requires { at + 20 ≤ length line.old }
-    ensures writes { Writes line.old at (decimalOf n) line.new result }
+    ensures writes { Writes line.old at (decimal_of n) line.new result }
     ensures upper_bound { result ≤ at + 20 }
 {
     let mut digits = [0u8; 20];
@@ -33,7 +33,7 @@ fn put_number(line: &mut [u8], at: usize, n: u64) -> usize
 // Writes the places whose bits are set from a place of the line on, and answers the place after them.
 fn put_places(line: &mut [u8], at: usize, bits: u8) -> usize
     requires { at + 16 ≤ length line.old }
-    ensures writes { Writes line.old at (placesText bits) line.new result }
+    ensures writes { Writes line.old at (places_text bits) line.new result }
     ensures upper_bound { result ≤ at + 16 }
 {
     let mut end = at;
@@ -48,7 +48,7 @@ fn put_places(line: &mut [u8], at: usize, bits: u8) -> usize
 // Writes the line of a record, by its place in the file and its byte of the report, and answers how long it is.
 fn put_record(line: &mut [u8], place: u64, bits: u8) -> usize
     requires { 52 ≤ length line.old }
-    ensures writes { Writes line.old 0 (recordText place bits) line.new result }
+    ensures writes { Writes line.old 0 (record_text place bits) line.new result }
     ensures upper_bound { result ≤ 52 }
 {
     let place_at = put(line, 0, b"record ");

@@ -2,7 +2,7 @@
 // holds its columns to the run's answers. The first engine judges the file; the numbers come from loops of their own.
 ghost use Rattle.std.specs.Prelude.{false, ◌||◌, ◌≡◌, ltb};
 ghost use Rattle.numbers.specs.Eight.{eight};
-ghost use Rattle.by_type.specs.Columns.{nine, columnsOf, filledOf};
+ghost use Rattle.by_type.specs.Columns.{nine, columns_of, filled_of};
 
 use by_type::Filled;
 use releases::{add_across, fill_four};
@@ -52,8 +52,8 @@ pub fn fill(
     industrial: &mut [u64],
     figures: &mut [u64],
 ) -> Filled
-    ensures value { result ≡ filledOf file.now (nine wood.old paper.old food.old textiles.old garden.old inert.old domestic.old industrial.old figures.old) }
-    ensures figures_after { nine wood.new paper.new food.new textiles.new garden.new inert.new domestic.new industrial.new figures.new ≡ columnsOf file.now (nine wood.old paper.old food.old textiles.old garden.old inert.old domestic.old industrial.old figures.old) }
+    ensures value { result ≡ filled_of file.now (nine wood.old paper.old food.old textiles.old garden.old inert.old domestic.old industrial.old figures.old) }
+    ensures figures_after { nine wood.new paper.new food.new textiles.new garden.new inert.new domestic.new industrial.new figures.new ≡ columns_of file.now (nine wood.old paper.old food.old textiles.old garden.old inert.old domestic.old industrial.old figures.old) }
 {
     let judged = stretches::whole_run(file);
     if judged.refusal != 0 {

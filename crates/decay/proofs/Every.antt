@@ -8,9 +8,9 @@ use lib.Dec.{T}
 use lib.Ieee.Fits.{and_l, and_r}
 
 -- The test holds of every entry with its number, the first one's being k.
-abbrev pub everyFrom : (ℕ → ℕ → Bool) → ℕ → List ℕ → Bool
-everyFrom test k [] = true
-everyFrom test k (x ∷ xs) = test k x && everyFrom test (suc k) xs
+abbrev pub every_from : (ℕ → ℕ → Bool) → ℕ → List ℕ → Bool
+every_from test k [] = true
+every_from test k (x ∷ xs) = test k x && every_from test (suc k) xs
 
 -- The test holds of 1, 2, .., n.
 abbrev pub up_to : (ℕ → Bool) → ℕ → Bool

@@ -5,7 +5,7 @@ use Prim.Native.Nat.{ℕ, zero, suc, ◌+◌, ◌-◌, ◌*◌, ◌^◌, ◌≤�
 use native.Mathlib.Nat.{zero-add, suc-add, pow-zero, pow-suc, mul-le-mul_left}
 use native.Mathlib.Omega.{arith}
 use Rattle.numbers.specs.Fraction.{Fraction, over, whole, negative, ◌⊕◌, ◌≼◌, power, total}
-use Rattle.numbers.proofs.Fraction.{at-most-trans, more-with, less-with, more-with-both, less-with-both}
+use Rattle.numbers.proofs.Fraction.{at_most_trans, more_with, less_with, more_with_both, less_with_both}
 use Rattle.decay.specs.Series.{factorial, term, E}
 
 -- even 0, odd 1, ..
@@ -42,11 +42,11 @@ module _ (p q : ℕ) (h : 0 < q) where
   either true m k = (omega arith, omega arith)
   either false m k = (omega arith, omega arith)
 
-  the-power : (n : ℕ) → Power n
+  the_power : (n : ℕ) → Power n
   unfolding power
-  the-power zero = record { up = sym (pow-zero p); down = refl; bottom = sym (pow-zero q) }
-  the-power (suc n) =
-      let w = the-power n in
+  the_power zero = record { up = sym (pow-zero p); down = refl; bottom = sym (pow-zero q) }
+  the_power (suc n) =
+      let w = the_power n in
       record {
         up = rw (w.up, w.down, pow-suc) (either (even n) (p ^ n) p).0;
         down = rw (w.up, w.down, pow-suc) (either (even n) (p ^ n) p).1;
@@ -62,14 +62,14 @@ module _ (p q : ℕ) (h : 0 < q) where
   pub the_term : (n : ℕ) → Term n
   unfolding term
   the_term n =
-      let w = the-power n in
+      let w = the_power n in
       record { up = rw (← w.up) (omega arith); down = rw (← w.down) (omega arith); bottom = rw w.bottom }
 
-  even-term : (n : ℕ) → even n ≡ true → whole 0 ≼ term x n
-  even-term n e = rw ((the_term n).down, e) (omega arith)
+  even_term : (n : ℕ) → even n ≡ true → whole 0 ≼ term x n
+  even_term n e = rw ((the_term n).down, e) (omega arith)
 
-  pub odd-term : (n : ℕ) → even n ≡ false → term x n ≼ whole 0
-  odd-term n e = rw ((the_term n).up, e) (omega arith)
+  pub odd_term : (n : ℕ) → even n ≡ false → term x n ≼ whole 0
+  odd_term n e = rw ((the_term n).up, e) (omega arith)
 
   -- where x is at most 1, a term and the next one together have the sign of the first
   module _ (small : p ≤ q) where
@@ -101,23 +101,23 @@ module _ (p q : ℕ) (h : 0 < q) where
     unfolding E total
     next n m true e one two =
         record {
-          low = at-most-trans (E x (suc n)) (E x (suc m)) (E x (suc (suc m))) two.low
-              (more-with (E x (suc m)) (term x (suc (suc m))) (even-term (suc (suc m)) (simp e)));
-          high = at-most-trans (E x (suc (suc m))) (E x m) (E x n)
-              (less-with-both (E x m) (term x (suc m)) (term x (suc (suc m))) (simp e at (pair (suc m)))) one.high;
+          low = at_most_trans (E x (suc n)) (E x (suc m)) (E x (suc (suc m))) two.low
+              (more_with (E x (suc m)) (term x (suc (suc m))) (even_term (suc (suc m)) (simp e)));
+          high = at_most_trans (E x (suc (suc m))) (E x m) (E x n)
+              (less_with_both (E x m) (term x (suc m)) (term x (suc (suc m))) (simp e at (pair (suc m)))) one.high;
         }
     next n m false e one two =
         record {
-          low = at-most-trans (E x (suc n)) (E x m) (E x (suc (suc m))) one.low
-              (more-with-both (E x m) (term x (suc m)) (term x (suc (suc m))) (simp e at (pair (suc m))));
-          high = at-most-trans (E x (suc (suc m))) (E x (suc m)) (E x n)
-              (less-with (E x (suc m)) (term x (suc (suc m))) (odd-term (suc (suc m)) (simp e))) two.high;
+          low = at_most_trans (E x (suc n)) (E x m) (E x (suc (suc m))) one.low
+              (more_with_both (E x m) (term x (suc m)) (term x (suc (suc m))) (simp e at (pair (suc m))));
+          high = at_most_trans (E x (suc (suc m))) (E x (suc m)) (E x n)
+              (less_with (E x (suc m)) (term x (suc (suc m))) (odd_term (suc (suc m)) (simp e))) two.high;
         }
 
     both : (n k : ℕ) → even n ≡ true → Between n (k + n) × Between n (suc (k + n))
     unfolding E total
     both n zero e =
-        let falls : E x (suc n) ≼ E x n = less-with (E x n) (term x (suc n)) (odd-term (suc n) (simp e)) in
+        let falls : E x (suc n) ≼ E x n = less_with (E x n) (term x (suc n)) (odd_term (suc n) (simp e)) in
         rw (zero-add n) (record { low = falls; high = omega arith }, record { low = omega arith; high = falls })
     both n (suc k) e =
         let w = both n k e in

@@ -2,21 +2,21 @@
 use Rattle.std.specs.Prelude.{cond, ◌&&◌, List, [], ◌∷◌, ℕ, zero, suc, ◌+◌, ◌*◌, ◌^◌, ◌<◌, leb, eqb, get_or}
 use Rattle.std.proofs.Common.{mul-pos, arith}
 use Rattle.numbers.specs.Fraction.{Fraction, over, whole, negative, floor, ◌⊗◌, ◌≼◌, ◌≺◌, power, total}
-use Rattle.waste.specs.Kind.{yearly, isKind}
+use Rattle.waste.specs.Kind.{yearly, is_kind}
 
 -- i!
 unfoldable pub factorial : ℕ → ℕ
 factorial zero = 1
 factorial (suc i) = suc i * factorial i
 
-pub factorial-pos : (i : ℕ) → 0 < factorial i
+pub factorial_pos : (i : ℕ) → 0 < factorial i
 unfolding factorial
-factorial-pos zero = omega arith
-factorial-pos (suc i) = mul-pos (omega arith) (factorial-pos i)
+factorial_pos zero = omega arith
+factorial_pos (suc i) = mul-pos (omega arith) (factorial_pos i)
 
 -- (−x)^i / i!
 unfoldable pub term : Fraction → ℕ → Fraction
-term x i = power (negative x) i ⊗ over 1 (factorial i) (factorial-pos i)
+term x i = power (negative x) i ⊗ over 1 (factorial i) (factorial_pos i)
 
 -- E(n): the sum of (−x)^i / i! for i from 0 to n.
 unfoldable pub E : Fraction → ℕ → Fraction
@@ -33,8 +33,8 @@ pub record StandsFor (D : ℕ) (d : Fraction) : Type 0 where
   pub up_to : whole (10 ^ 9) ⊗ d ≺ whole (D + 1)
 
 -- The only D that can meet the rule: 10^9 × E(15) rounded down.
-unfoldable pub roundedDown : Fraction → ℕ
-roundedDown x = floor (whole (10 ^ 9) ⊗ E x 15)
+unfoldable pub rounded_down : Fraction → ℕ
+rounded_down x = floor (whole (10 ^ 9) ⊗ E x 15)
 
 -- x for a rate r in thousandths: r/1000 (year) or r/12000 (month).
 abbrev pub exponent : (kind r : ℕ) → Fraction
@@ -42,17 +42,17 @@ exponent kind r = cond (eqb kind yearly) (over r 1000 (omega arith)) (over r 120
 
 -- The table has every rate from 1 to 400, by year and by month; asked for any other rate or kind, the look-up answers 0.
 unfoldable pub entry_of : (kind rate : ℕ) → ℕ
-entry_of kind rate = cond (isKind kind && leb 1 rate && leb rate 400) (roundedDown (exponent kind rate)) 0
+entry_of kind rate = cond (is_kind kind && leb 1 rate && leb rate 400) (rounded_down (exponent kind rate)) 0
 
 -- The entries of a kind from a rate on, so many of them.
-unfoldable pub entriesFrom : (kind rate many : ℕ) → List ℕ
-entriesFrom kind rate zero = []
-entriesFrom kind rate (suc many) = entry_of kind rate ∷ entriesFrom kind (suc rate) many
+unfoldable pub entries_from : (kind rate many : ℕ) → List ℕ
+entries_from kind rate zero = []
+entries_from kind rate (suc many) = entry_of kind rate ∷ entries_from kind (suc rate) many
 
 -- The 400 numbers of a kind, the first for rate 1.
-unfoldable pub tableOf : ℕ → List ℕ
-tableOf kind = entriesFrom kind 1 400
+unfoldable pub table_of : ℕ → List ℕ
+table_of kind = entries_from kind 1 400
 
 -- What a table has for a rate, and 0 for a rate that it does not have.
-abbrev pub atRate : List ℕ → ℕ → ℕ
-atRate table rate = get_or (0 ∷ table) rate 0
+abbrev pub at_rate : List ℕ → ℕ → ℕ
+at_rate table rate = get_or (0 ∷ table) rate 0

@@ -1,8 +1,8 @@
 // The entries by month, each worked out from the series in whole numbers when it is looked up: request e of document 02.
 ghost use Rattle.std.specs.Prelude.{◌≡◌, ◌+◌, ◌≤◌, ◌<◌};
 ghost use Rattle.waste.specs.Kind.{monthly};
-ghost use Rattle.decay.specs.Series.{entry_of, tableOf};
-ghost use Rattle.decay.specs.ByMonth.{scale, bracket_of, terms, leftAfterMonth, filledTo};
+ghost use Rattle.decay.specs.Series.{entry_of, table_of};
+ghost use Rattle.decay.specs.ByMonth.{scale, bracket_of, terms, left_after_month, filled_to};
 
 // The whole, as a number of which a billionth is still wide.
 const PER_BILLIONTH: u64 = 10_000_000;
@@ -25,7 +25,7 @@ fn bracket(rate: u64, n: u64, left: u64) -> u64
 // Answers what a month leaves of the whole.
 fn left_after_a_month(rate: u64) -> u64
     requires { rate ≤ 400 }
-    ensures { result ≡ leftAfterMonth rate }
+    ensures { result ≡ left_after_month rate }
 {
     let mut left = SCALE;
     let mut n = TERMS;
@@ -52,8 +52,8 @@ pub(crate) fn monthly(rate: u16) -> u32
 // Fills five more entries in: few enough for the compiler to unroll.
 fn fill_five(table: &mut [u32; 400], from: usize)
     requires from_bound { from + 5 ≤ 400 }
-    requires table_value { table.old ≡ filledTo from }
-    ensures { table.new ≡ filledTo (from + 5) }
+    requires table_value { table.old ≡ filled_to from }
+    ensures { table.new ≡ filled_to (from + 5) }
 {
     for i in 0..5 {
         table[from + i] = monthly((from + i) as u16 + 1);
@@ -63,8 +63,8 @@ fn fill_five(table: &mut [u32; 400], from: usize)
 // Fills fifty more entries in: few enough calls for the compiler to work into the caller.
 fn fill_fifty(table: &mut [u32; 400], from: usize)
     requires from_bound { from + 50 ≤ 400 }
-    requires table_value { table.old ≡ filledTo from }
-    ensures { table.new ≡ filledTo (from + 50) }
+    requires table_value { table.old ≡ filled_to from }
+    ensures { table.new ≡ filled_to (from + 50) }
 {
     fill_five(table, from);
     fill_five(table, from + 5);
@@ -81,7 +81,7 @@ fn fill_fifty(table: &mut [u32; 400], from: usize)
 // Answers the table by month. The places are written out, so that the compiler knows each rate; where a caller reads known places, only
 // their entries stay in the program.
 pub(crate) fn monthly_table() -> [u32; 400]
-    ensures { result ≡ tableOf 2 }
+    ensures { result ≡ table_of 2 }
 {
     let mut table = [0u32; 400];
     fill_fifty(&mut table, 0);

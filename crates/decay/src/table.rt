@@ -1,7 +1,7 @@
 // The 400 entries by year, as tools/decay_tables.py prints them; the table of a kind, and what a table has for a rate.
 ghost use Rattle.std.specs.Prelude.{◌≡◌};
 ghost use Rattle.waste.specs.Kind.{yearly};
-ghost use Rattle.decay.specs.Series.{entry_of, tableOf, atRate};
+ghost use Rattle.decay.specs.Series.{entry_of, table_of, at_rate};
 
 use crate::month::monthly_table;
 
@@ -60,14 +60,14 @@ const YEARLY: [u32; 400] = [
 
 // Answers the table by year.
 fn yearly_table() -> [u32; 400]
-    ensures { result ≡ tableOf 1 }
+    ensures { result ≡ table_of 1 }
 {
     YEARLY
 }
 
 // Answers the table of a kind, and only zeros for any other kind.
 pub fn table_of(kind: u8) -> [u32; 400]
-    ensures { result ≡ tableOf kind }
+    ensures { result ≡ table_of kind }
 {
     if kind == waste::YEARLY {
         return yearly_table();
@@ -80,7 +80,7 @@ pub fn table_of(kind: u8) -> [u32; 400]
 
 // Answers what a table has for a rate, its first number for rate 1, and 0 for a rate that it does not have.
 pub fn at_rate(table: &[u32], rate: u16) -> u32
-    ensures { result ≡ atRate table.now rate }
+    ensures { result ≡ at_rate table.now rate }
 {
     if rate == 0 {
         return 0;

@@ -9,8 +9,8 @@ use lib.IntN.{pos, negsuc}
 use lib.Ieee.{Float, binary64, round, of_int}
 use lib.Ieee.Back.{round_whole}
 use borrow.Author.Tests.{le-leb, leb-true}
-use Rattle.waste.specs.Waste.{massLimit}
-use Rattle.door.specs.Cell.{Whole, whole, not-whole, whole_of, refusedCell, acceptedCell, numbersOf, answerToNumber, answerTo}
+use Rattle.waste.specs.Waste.{mass_limit}
+use Rattle.door.specs.Cell.{Whole, whole, not_whole, whole_of, refused_cell, accepted_cell, numbers_of, answer_to_number, answer_to}
 use Rattle.door.specs.declared.cell.Cell.{Cell}
 use Rattle.door.specs.declared.cell.Cell.TheVariants.{Empty, Number}
 use Rattle.door.specs.declared.cell.Numbers.{Numbers}
@@ -22,7 +22,7 @@ use Rattle.door.proofs.Whole.{is_whole}
 case_of : Numbers → Weighed
 case_of n = cond (eqb n.refusal 10) EmptyCell (cond (eqb n.refusal 11) NotWhole (cond (eqb n.refusal 12) OutOfRange (Mass n.mass)))
 
-same_case : (answer : Weighed) → case_of (numbersOf answer) ≡ answer
+same_case : (answer : Weighed) → case_of (numbers_of answer) ≡ answer
 unfolding case_of
 same_case (Mass mass) = refl
 same_case EmptyCell = refl
@@ -30,39 +30,39 @@ same_case NotWhole = refl
 same_case OutOfRange = refl
 
 -- Each cell has one answer.
-pub one-mass : (cell : Cell) (a b : Weighed) → numbersOf a ≡ answerTo cell → numbersOf b ≡ answerTo cell → a ≡ b
-one-mass cell a b p q = sym (same_case a) ∙ ap case_of (p ∙ sym q) ∙ same_case b
+pub one_mass : (cell : Cell) (a b : Weighed) → numbers_of a ≡ answer_to cell → numbers_of b ≡ answer_to cell → a ≡ b
+one_mass cell a b p q = sym (same_case a) ∙ ap case_of (p ∙ sym q) ∙ same_case b
 
 -- The float of a whole number up to 2^53 is exactly that number.
-pub float-whole : (n : ℕ) → n ≤ 2 ^ 53 → whole_of (of_int binary64 (pos n)) ≡ whole (pos n)
+pub float_whole : (n : ℕ) → n ≤ 2 ^ 53 → whole_of (of_int binary64 (pos n)) ≡ whole (pos n)
 unfolding of_int
-float-whole n h = is_whole (round binary64 false n 1) false n 1 (lit< tt) (rw mul-one (round_whole binary64 false n h))
+float_whole n h = is_whole (round binary64 false n 1) false n 1 (lit< tt) (rw mul-one (round_whole binary64 false n h))
 
 -- A mass made a float and read back through a cell is that mass.
-pub mass-read-back : (mass : ℕ) → mass ≤ massLimit → numbersOf (Mass mass) ≡ answerTo (Number (of_int binary64 (pos mass)))
-mass-read-back mass h = rw (float-whole mass (le_trans h (lit≤ tt)), le-leb mass massLimit h)
+pub mass_read_back : (mass : ℕ) → mass ≤ mass_limit → numbers_of (Mass mass) ≡ answer_to (Number (of_int binary64 (pos mass)))
+mass_read_back mass h = rw (float_whole mass (le_trans h (lit≤ tt)), le-leb mass mass_limit h)
 
-never : {A : Type 0} (mass n : ℕ) → acceptedCell mass ≡ refusedCell (suc n) → A
+never : {A : Type 0} (mass n : ℕ) → accepted_cell mass ≡ refused_cell (suc n) → A
 never mass n p = let z : 0 ≡ suc n = ap (λ (r : Numbers). r.refusal) p in absurd (omega arith)
 
 -- an accepted number is whole, the mass itself, and within the limit
-accepted-number : (w : Whole) (mass : ℕ) → acceptedCell mass ≡ answerToNumber w → (w ≡ whole (pos mass)) × (mass ≤ massLimit)
-accepted-number w mass p = at w p
+accepted_number : (w : Whole) (mass : ℕ) → accepted_cell mass ≡ answer_to_number w → (w ≡ whole (pos mass)) × (mass ≤ mass_limit)
+accepted_number w mass p = at w p
   where
-    within : (b : Bool) (n : ℕ) → (b ≡ true → n ≤ massLimit) → acceptedCell mass ≡ cond b (acceptedCell n) (refusedCell 12) → (whole (pos n) ≡ whole (pos mass)) × (mass ≤ massLimit)
+    within : (b : Bool) (n : ℕ) → (b ≡ true → n ≤ mass_limit) → accepted_cell mass ≡ cond b (accepted_cell n) (refused_cell 12) → (whole (pos n) ≡ whole (pos mass)) × (mass ≤ mass_limit)
     within false n h p = never mass 11 p
     within true n h p = let e : mass ≡ n = ap (λ (r : Numbers). r.mass) p in (rw e, rw e (h refl))
 
-    at : (w : Whole) → acceptedCell mass ≡ answerToNumber w → (w ≡ whole (pos mass)) × (mass ≤ massLimit)
-    at not-whole p = never mass 10 p
+    at : (w : Whole) → accepted_cell mass ≡ answer_to_number w → (w ≡ whole (pos mass)) × (mass ≤ mass_limit)
+    at not_whole p = never mass 10 p
     at (whole (negsuc n)) p = never mass 11 p
-    at (whole (pos n)) p = within (leb n massLimit) n (leb-true n massLimit) p
+    at (whole (pos n)) p = within (leb n mass_limit) n (leb-true n mass_limit) p
 
 -- A cell that is read as a mass, and the mass made a float, are the same number.
-pub cell-read-back : (kg : Float) (mass : ℕ) → numbersOf (Mass mass) ≡ answerTo (Number kg) → whole_of (of_int binary64 (pos mass)) ≡ whole_of kg
-cell-read-back kg mass p = let h = accepted-number (whole_of kg) mass p in float-whole mass (le_trans h.1 (lit≤ tt)) ∙ sym h.0
+pub cell_read_back : (kg : Float) (mass : ℕ) → numbers_of (Mass mass) ≡ answer_to (Number kg) → whole_of (of_int binary64 (pos mass)) ≡ whole_of kg
+cell_read_back kg mass p = let h = accepted_number (whole_of kg) mass p in float_whole mass (le_trans h.1 (lit≤ tt)) ∙ sym h.0
 
 -- No cell gives a mass above 10^9.
-pub mass-within-limit : (cell : Cell) (mass : ℕ) → numbersOf (Mass mass) ≡ answerTo cell → mass ≤ massLimit
-mass-within-limit Empty mass p = never mass 9 p
-mass-within-limit (Number kg) mass p = (accepted-number (whole_of kg) mass p).1
+pub mass_within_limit : (cell : Cell) (mass : ℕ) → numbers_of (Mass mass) ≡ answer_to cell → mass ≤ mass_limit
+mass_within_limit Empty mass p = never mass 9 p
+mass_within_limit (Number kg) mass p = (accepted_number (whole_of kg) mass p).1

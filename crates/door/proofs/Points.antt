@@ -8,41 +8,41 @@ use lib.Ieee.Back.{round_whole}
 use lib.Ieee.Exact.{HasValue}
 use lib.Ieee.Order.{round_mono}
 use borrow.Author.Tests.{le-leb}
-use Rattle.door.specs.Point.{exact, float_of, point_of, chartedOf}
+use Rattle.door.specs.Point.{exact, float_of, point_of, charted_of}
 use Rattle.door.specs.declared.point.Charted.{Charted}
 use Rattle.door.specs.declared.point.Point.{Point}
 
 -- The float of a whole number up to 2^53 is exactly that number: it has no minus, and is n / 1 in size.
-pub float-exact : (n : ℕ) → n ≤ exact → HasValue (float_of n) false n 1
+pub float_exact : (n : ℕ) → n ≤ exact → HasValue (float_of n) false n 1
 unfolding of_int
-float-exact n h = round_whole binary64 false n (omega arith)
+float_exact n h = round_whole binary64 false n (omega arith)
 
 -- Each float of a point equals its whole number exactly.
 pub record Exact (point : Point) (figure bound : ℕ) : Type 0 where
-  pub figure-exact : HasValue point.figure false figure 1
-  pub low-exact : HasValue point.low false (figure - bound) 1
-  pub high-exact : HasValue point.high false (figure + bound) 1
+  pub figure_exact : HasValue point.figure false figure 1
+  pub low_exact : HasValue point.low false (figure - bound) 1
+  pub high_exact : HasValue point.high false (figure + bound) 1
 
-pub point-exact : (figure bound : ℕ) → figure + bound ≤ exact → Exact (chartedOf figure bound).point figure bound
-point-exact figure bound h = rw (le-leb (figure + bound) exact h) (record {
-  figure-exact = float-exact figure (omega arith);
-  low-exact = float-exact (figure - bound) (omega arith);
-  high-exact = float-exact (figure + bound) h;
+pub point_exact : (figure bound : ℕ) → figure + bound ≤ exact → Exact (charted_of figure bound).point figure bound
+point_exact figure bound h = rw (le-leb (figure + bound) exact h) (record {
+  figure_exact = float_exact figure (omega arith);
+  low_exact = float_exact (figure - bound) (omega arith);
+  high_exact = float_exact (figure + bound) h;
 })
 
 -- The low edge is at most the figure, and the figure at most the high edge.
 pub record InOrder (point : Point) : Type 0 where
   pub low_first : T (le point.low point.figure)
-  pub high-last : T (le point.figure point.high)
+  pub high_last : T (le point.figure point.high)
 
-pub edges-in-order : (figure bound : ℕ) → InOrder (chartedOf figure bound).point
-edges-in-order figure bound = either (leb (figure + bound) exact) _ _ (in_order figure bound) (in_order 0 0)
+pub edges_in_order : (figure bound : ℕ) → InOrder (charted_of figure bound).point
+edges_in_order figure bound = either (leb (figure + bound) exact) _ _ (in_order figure bound) (in_order 0 0)
   where
     rises : (a b : ℕ) → a ≤ b → T (le (float_of a) (float_of b))
     rises a b h = unfold of_int in round_mono binary64 a 1 b 1 (lit< tt) (lit< tt) (omega arith)
 
     in_order : (figure bound : ℕ) → InOrder (point_of figure bound)
-    in_order figure bound = record { low_first = rises (figure - bound) figure (omega arith); high-last = rises figure (figure + bound) (omega arith) }
+    in_order figure bound = record { low_first = rises (figure - bound) figure (omega arith); high_last = rises figure (figure + bound) (omega arith) }
 
     either : (b : Bool) (x y : Charted) → InOrder x.point → InOrder y.point → InOrder (cond {A = Charted} b x y).point
     either true x y p q = p

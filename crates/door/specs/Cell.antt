@@ -2,7 +2,7 @@
 use Rattle.std.specs.Prelude.{ℕ, ◌*◌, ◌/◌, ◌%◌, Bool, true, false, cond, leb, eqb, ℤ, pos, negsuc, neg_ℤ, Float}
 use Rattle.std.specs.Float.{nan, inf, fin}
 use Rattle.std.specs.Float.Ieee.{up, down}
-use Rattle.waste.specs.Waste.{massLimit}
+use Rattle.waste.specs.Waste.{mass_limit}
 use Rattle.door.specs.declared.cell.Cell.{Cell}
 use Rattle.door.specs.declared.cell.Cell.TheVariants.{Empty, Number}
 use Rattle.door.specs.declared.cell.Numbers.{Numbers}
@@ -10,24 +10,24 @@ use Rattle.door.specs.declared.cell.Weighed.{Weighed}
 use Rattle.door.specs.declared.cell.Weighed.TheVariants.{Mass, EmptyCell, NotWhole, OutOfRange}
 
 -- A refused cell gives mass 0.
-abbrev pub refusedCell : ℕ → Numbers
-refusedCell number = record { refusal = number; mass = 0 }
+abbrev pub refused_cell : ℕ → Numbers
+refused_cell number = record { refusal = number; mass = 0 }
 
 -- An accepted cell has no refusal.
-abbrev pub acceptedCell : ℕ → Numbers
-acceptedCell mass = record { refusal = 0; mass = mass }
+abbrev pub accepted_cell : ℕ → Numbers
+accepted_cell mass = record { refusal = 0; mass = mass }
 
 -- The numbers of each case of the answer.
-abbrev pub numbersOf : Weighed → Numbers
-numbersOf (Mass mass) = acceptedCell mass
-numbersOf EmptyCell = refusedCell 10
-numbersOf NotWhole = refusedCell 11
-numbersOf OutOfRange = refusedCell 12
+abbrev pub numbers_of : Weighed → Numbers
+numbers_of (Mass mass) = accepted_cell mass
+numbers_of EmptyCell = refused_cell 10
+numbers_of NotWhole = refused_cell 11
+numbers_of OutOfRange = refused_cell 12
 
 -- The whole number that a float is, if it is one.
 pub data Whole : Type 0 where
   whole : ℤ → Whole
-  not-whole : Whole
+  not_whole : Whole
 
 -- The whole number of a sign bit and a size: minus zero is 0.
 abbrev pub signed : Bool → ℕ → ℤ
@@ -36,18 +36,18 @@ signed true size = neg_ℤ (pos size)
 
 -- A finite float is m × 2^e with its sign, where 2^e is up e / down e: it is whole where this division leaves nothing over.
 abbrev pub whole_of : Float → Whole
-whole_of nan = not-whole
-whole_of (inf sign) = not-whole
-whole_of (fin sign m e) = cond (eqb (m * up e % down e) 0) (whole (signed sign (m * up e / down e))) not-whole
+whole_of nan = not_whole
+whole_of (inf sign) = not_whole
+whole_of (fin sign m e) = cond (eqb (m * up e % down e) 0) (whole (signed sign (m * up e / down e))) not_whole
 
 -- A number that is not whole, is infinite or is not a number is refused with 11. A whole number below 0 (negsuc n is −1 − n) or
 -- above 10^9 is refused with 12. Otherwise the answer is that mass.
-abbrev pub answerToNumber : Whole → Numbers
-answerToNumber not-whole = refusedCell 11
-answerToNumber (whole (negsuc n)) = refusedCell 12
-answerToNumber (whole (pos n)) = cond (leb n massLimit) (acceptedCell n) (refusedCell 12)
+abbrev pub answer_to_number : Whole → Numbers
+answer_to_number not_whole = refused_cell 11
+answer_to_number (whole (negsuc n)) = refused_cell 12
+answer_to_number (whole (pos n)) = cond (leb n mass_limit) (accepted_cell n) (refused_cell 12)
 
 -- An empty cell is refused with 10.
-abbrev pub answerTo : Cell → Numbers
-answerTo Empty = refusedCell 10
-answerTo (Number kg) = answerToNumber (whole_of kg)
+abbrev pub answer_to : Cell → Numbers
+answer_to Empty = refused_cell 10
+answer_to (Number kg) = answer_to_number (whole_of kg)

@@ -18,8 +18,8 @@ abbrev pub point_of : ℕ → ℕ → Point
 point_of figure bound = record { figure = float_of figure; low = float_of (figure - bound); high = float_of (figure + bound) }
 
 -- If the true sum is above 9,007,199,254,740,992 the point is refused with 13 and all three are 0.
-abbrev pub chartedOf : ℕ → ℕ → Charted
-chartedOf figure bound =
+abbrev pub charted_of : ℕ → ℕ → Charted
+charted_of figure bound =
     cond (leb (figure + bound) exact)
     (record { point = point_of figure bound; refusal = 0 })
     (record { point = point_of 0 0; refusal = 13 })

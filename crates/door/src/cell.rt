@@ -4,7 +4,7 @@ ghost use Rattle.std.specs.Prelude.{◌≡◌, ◌^◌, ◌<◌, Float};
 ghost use Rattle.std.specs.Float.{binary64};
 ghost use Rattle.std.specs.Float.Ieee.{of_bits};
 ghost use Rattle.std.specs.Float.Ieee.Exact.{HasValue};
-ghost use Rattle.door.specs.Cell.{answerTo, answerToNumber, numbersOf, whole_of};
+ghost use Rattle.door.specs.Cell.{answer_to, answer_to_number, numbers_of, whole_of};
 
 // Empty, or a number of kilograms.
 #[derive(Drop)]
@@ -37,7 +37,7 @@ impl Cell {
 impl Weighed {
     // Answers the number of the refusal and the mass.
     pub fn numbers(self) -> Numbers
-        ensures { result ≡ numbersOf self }
+        ensures { result ≡ numbers_of self }
     {
         match self {
             Weighed::Mass(mass) => Numbers { refusal: 0, mass },
@@ -72,7 +72,7 @@ const NOT_FINITE: u64 = 2047;
 // Answers the mass of a number, or the refusal, from its sign, its digits and how many of these stand behind the point.
 fn weigh_digits(minus: bool, digits: u64, behind: u64) -> Weighed
     requires { (0 < digits) × (behind < 64) }
-    ensures { (number : Float) → HasValue number minus digits (2 ^ behind) → numbersOf result ≡ answerToNumber (whole_of number) }
+    ensures { (number : Float) → HasValue number minus digits (2 ^ behind) → numbers_of result ≡ answer_to_number (whole_of number) }
 {
     let kg = digits >> behind;
     if kg << behind != digits {
@@ -89,7 +89,7 @@ fn weigh_digits(minus: bool, digits: u64, behind: u64) -> Weighed
 
 // Answers the mass that a number's bits name, or the refusal: by whole numbers, which no floating-point mode changes.
 fn weigh_bits(bits: u64) -> Weighed
-    ensures { numbersOf result ≡ answerToNumber (whole_of (of_bits binary64 bits)) }
+    ensures { numbers_of result ≡ answer_to_number (whole_of (of_bits binary64 bits)) }
 {
     let size = bits % SIGN;
     if size == 0 {
@@ -110,7 +110,7 @@ fn weigh_bits(bits: u64) -> Weighed
 
 // Answers the mass that a cell names, or refuses the cell.
 pub fn weigh(cell: Cell) -> Weighed
-    ensures { numbersOf result ≡ answerTo cell }
+    ensures { numbers_of result ≡ answer_to cell }
 {
     let Cell::Number(kg) = cell else {
         return Weighed::EmptyCell;

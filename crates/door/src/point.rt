@@ -1,7 +1,7 @@
 // The points of the sheet's chart: a figure and the edges that its bound gives it.
 // It serves the second paragraph of "The spreadsheet door" of document 01, and is called by the package that draws the sheet.
 ghost use Rattle.std.specs.Prelude.{◌≡◌, ◌-◌};
-ghost use Rattle.door.specs.Point.{chartedOf};
+ghost use Rattle.door.specs.Point.{charted_of};
 
 // Two to the 53: each whole number up to here is a float exactly.
 pub const EXACT: u64 = 9_007_199_254_740_992;
@@ -30,7 +30,7 @@ fn low_edge(figure: u64, bound: u64) -> u64
 
 // Answers the point of a figure and its bound, or refuses a high edge above two to the 53.
 pub fn chart(figure: u64, bound: u64) -> Charted
-    ensures { result ≡ chartedOf figure bound }
+    ensures { result ≡ charted_of figure bound }
 {
     if figure <= EXACT && bound <= EXACT - figure {
         // up to two to the 53 the casts round nothing, so that no rounding mode changes a point

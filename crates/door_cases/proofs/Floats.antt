@@ -3,7 +3,7 @@ use mathlib.Core.Bool.{Bool, true, false, cond, not}
 use Prim.Native.Nat.{ℕ, zero, suc, ◌+◌, ◌-◌, ◌*◌, ◌/◌, ◌%◌, ◌^◌, compare}
 use lib.Dec.{T, leb, ltb}
 use lib.Ieee.{Float, Format, prec, emax, low, binary64, size, nearest, is_nan, of_int, round, units, odd, inf}
-use Rattle.door.specs.Point.{exact, float_of, point_of, chartedOf}
+use Rattle.door.specs.Point.{exact, float_of, point_of, charted_of}
 use Rattle.door.specs.declared.point.Charted.{Charted}
 use Rattle.door.specs.declared.point.Point.{Point}
 
@@ -37,17 +37,17 @@ round_number f s num den =
     let u = den * 2 ^ k in
     units_number f s (nearest (n / u) (compare (n % u * 2) u)) k
 
-float-number : (n : ℕ) → IsNumber (float_of n)
+float_number : (n : ℕ) → IsNumber (float_of n)
 unfolding of_int
-float-number n = round_number binary64 false n 1
+float_number n = round_number binary64 false n 1
 
-point-numbers : (figure bound : ℕ) → AreNumbers (point_of figure bound)
-point-numbers figure bound =
-    record { figure = float-number figure; low = float-number (figure - bound); high = float-number (figure + bound) }
+point_numbers : (figure bound : ℕ) → AreNumbers (point_of figure bound)
+point_numbers figure bound =
+    record { figure = float_number figure; low = float_number (figure - bound); high = float_number (figure + bound) }
 
-either-chart : (b : Bool) (x y : Charted) → AreNumbers x.point → AreNumbers y.point → AreNumbers (cond b x y).point
-either-chart true x y hx hy = hx
-either-chart false x y hx hy = hy
+either_chart : (b : Bool) (x y : Charted) → AreNumbers x.point → AreNumbers y.point → AreNumbers (cond b x y).point
+either_chart true x y hx hy = hx
+either_chart false x y hx hy = hy
 
-pub chart-numbers : (figure bound : ℕ) → AreNumbers (chartedOf figure bound).point
-chart-numbers figure bound = either-chart (leb (figure + bound) exact) _ _ (point-numbers figure bound) (point-numbers 0 0)
+pub chart_numbers : (figure bound : ℕ) → AreNumbers (charted_of figure bound).point
+chart_numbers figure bound = either_chart (leb (figure + bound) exact) _ _ (point_numbers figure bound) (point_numbers 0 0)

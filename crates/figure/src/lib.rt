@@ -2,10 +2,10 @@
 // The ledger calls it, with the factors as a value.
 ghost use Rattle.std.specs.Prelude.{true, cond, ◌≡◌, ℕ, ◌+◌, ◌-◌, ◌*◌, ◌/◌, ◌^◌, ◌≤◌, ◌<◌, eqb, get_or};
 ghost use Rattle.numbers.specs.Eight.{sum_of};
-ghost use Rattle.record.specs.Fields.{kind_of, climateOf, factorsOf};
+ghost use Rattle.record.specs.Fields.{kind_of, climate_of, factors_of};
 ghost use Rattle.record.specs.Ranges.{in_range};
-ghost use Rattle.carbon.specs.Carbon.{mostBrought};
-ghost use Rattle.figure.specs.Figure.{figureOf, BOf, boundOf};
+ghost use Rattle.carbon.specs.Carbon.{most_brought};
+ghost use Rattle.figure.specs.Figure.{figure_of, b_of, bound_of};
 
 use output::Output;
 use record::Factors;
@@ -40,7 +40,7 @@ fn grams(x: u64, potential: u8) -> u64
 // Answers the figure of a record whose releases add up to x0, in grams CO2e.
 pub fn figure(factors: Factors, x0: u64) -> u64
     requires { in_range factors ≡ true }
-    ensures { result ≡ figureOf factors x0 }
+    ensures { result ≡ figure_of factors x0 }
 {
     let x1 = kept(x0, factors.factor, factors.captured);
     let correction = waste::correction(factors.class) as u64;
@@ -73,7 +73,7 @@ fn share(n: u16, brought: u64) -> u64
 
 // Answers B, what the eight types count together: n + 1 for each that brought something in, and the shares of all.
 pub fn margins(n: u16, brought: [u64; 8]) -> u64
-    ensures { result ≡ BOf n (λ t. get_or brought t 0) }
+    ensures { result ≡ b_of n (λ t. get_or brought t 0) }
 {
     let mut types = 0u64;
     let mut shares = 0u64;
@@ -86,7 +86,7 @@ pub fn margins(n: u16, brought: [u64; 8]) -> u64
 
 // Answers the bound of a record, from B, in grams CO2e.
 pub fn bound(factors: Factors, margins: u64) -> u64
-    ensures { result ≡ boundOf factors margins }
+    ensures { result ≡ bound_of factors margins }
 {
     3 + grams(margins, factors.potential)
 }
@@ -94,16 +94,16 @@ pub fn bound(factors: Factors, margins: u64) -> u64
 // Answers what the output record of record n says, given its bytes, its x0, its decay work, and T and R of the eight types after it.
 // A record without decay work releases nothing, so its figure is 0 and the chain is not worked out.
 pub fn filed(n: u16, bytes: &[u8], x0: u64, work: u64, brought: [u64; 8], stock: [u64; 8]) -> Output
-    requires bytes_value { in_range (factorsOf bytes.now) ≡ true }
+    requires bytes_value { in_range (factors_of bytes.now) ≡ true }
     requires x0_value { work ≡ 0 → x0 ≡ 0 }
-    requires by_index { (t : ℕ) → (t < 8 → (get_or brought t 0 ≤ mostBrought) × (get_or stock t 0 ≤ mostBrought)) }
+    requires by_index { (t : ℕ) → (t < 8 → (get_or brought t 0 ≤ most_brought) × (get_or stock t 0 ≤ most_brought)) }
     ensures { result ≡ record {
       period = n;
       kind = kind_of bytes.now;
-      climate = climateOf bytes.now;
+      climate = climate_of bytes.now;
       x0 = x0;
-      figure = figureOf (factorsOf bytes.now) x0;
-      bound = boundOf (factorsOf bytes.now) (BOf n (λ t. get_or brought t 0));
+      figure = figure_of (factors_of bytes.now) x0;
+      bound = bound_of (factors_of bytes.now) (b_of n (λ t. get_or brought t 0));
       stock = sum_of (λ t. get_or stock t 0) 8;
       brought = sum_of (λ t. get_or brought t 0) 8;
     } }

@@ -2,7 +2,7 @@
 // written as one. The entries for C and the program that runs test vectors call it.
 ghost use Rattle.std.specs.Prelude.{◌≡◌, ◌≤◌, length};
 ghost use Rattle.std.proofs.lemmas.List.Edits.{sets};
-ghost use Rattle.image.specs.Image.{frontOf, ledgerOf, imaged};
+ghost use Rattle.image.specs.Image.{front_of, ledger_of, imaged};
 
 use ledger::Ledger;
 use year_factors::YearFactors;
@@ -12,7 +12,7 @@ pub const BYTES: usize = 200;
 
 // Answers the ledger of an image, and an unsound one for bytes of another length.
 pub fn read(bytes: &[u8]) -> Ledger
-    ensures { result ≡ ledgerOf bytes.now }
+    ensures { result ≡ ledger_of bytes.now }
 {
     if bytes.len() != BYTES {
         let mut none = Ledger::fresh();
@@ -37,7 +37,7 @@ pub fn read(bytes: &[u8]) -> Ledger
 // Writes the first 8 bytes: n, kind, climate and the year.
 fn write_front(out: &mut [u8], ledger: Ledger)
     requires { 8 ≤ length out.old }
-    ensures { out.new ≡ sets out.old 0 (frontOf ledger) }
+    ensures { out.new ≡ sets out.old 0 (front_of ledger) }
 {
     numbers::write_u16(out, 0, ledger.n as u64);
     numbers::write_u8(out, 2, ledger.kind);

@@ -1,21 +1,21 @@
 // The entries for software that links the ledger from C: numbers and byte slices in, numbers and lent bytes out.
 // include/landfill.h is their description for the caller; each is thin over the proved crates.
 ghost use Rattle.std.specs.Prelude.{cond, ◌≡◌, eqb, length};
-ghost use Rattle.door.specs.Point.{chartedOf};
+ghost use Rattle.door.specs.Point.{charted_of};
 ghost use Rattle.decay.specs.Series.{entry_of};
-ghost use Rattle.door.specs.Cell.{answerTo};
-ghost use Rattle.run.specs.History.{out_of, workOver};
-ghost use Rattle.ledger.specs.Take.{totalsOf};
-ghost use Rattle.image.specs.Image.{imageBytes, freshLeft, ledgerOf};
-ghost use Rattle.samples.specs.Samples.{sortedOf};
-ghost use Rattle.uncertainty.specs.Uncertainty.{entering, byPercentages, byCodes};
-ghost use Rattle.order.specs.Repair.{repairedOf, outLeft, reportLeft};
-ghost use Rattle.tunisia.specs.Reduction.{reductionOf};
-ghost use Rattle.by_type.specs.Columns.{nine, columnsOf, filledOf};
+ghost use Rattle.door.specs.Cell.{answer_to};
+ghost use Rattle.run.specs.History.{out_of, work_over};
+ghost use Rattle.ledger.specs.Take.{totals_of};
+ghost use Rattle.image.specs.Image.{image_bytes, fresh_left, ledger_of};
+ghost use Rattle.samples.specs.Samples.{sorted_of};
+ghost use Rattle.uncertainty.specs.Uncertainty.{entering, by_percentages, by_codes};
+ghost use Rattle.order.specs.Repair.{repaired_of, out_left, report_left};
+ghost use Rattle.tunisia.specs.Reduction.{reduction_of};
+ghost use Rattle.by_type.specs.Columns.{nine, columns_of, filled_of};
 ghost use Rattle.lines.specs.Listing.{listed_of, text_of};
-ghost use Rattle.calls.specs.Calls.{answered, imageThen, outThen, takeHere, takeImage, takeOut, takeAnswer, runHere, runImage};
-ghost use Rattle.yearly_totals.specs.Months.{totalsAfter};
-ghost use Rattle.month_calls.specs.MonthCalls.{takeMonthHere, monthTotalsHere, runMonthsHere};
+ghost use Rattle.calls.specs.Calls.{answered, image_then, out_then, take_here, take_image, take_out, take_answer, run_here, run_image};
+ghost use Rattle.yearly_totals.specs.Months.{totals_after};
+ghost use Rattle.month_calls.specs.MonthCalls.{take_month_here, month_totals_here, run_months_here};
 ghost use Rattle.landfill.specs.Entries.{cell_of};
 
 use door::Cell;
@@ -33,8 +33,8 @@ pub extern "C" fn landfill_entry(kind: u8, rate: u16) -> u32
 // Writes the image of a fresh ledger, all zero; a buffer that is not 200 bytes is refused with 3.
 #[unsafe(no_mangle)]
 pub extern "C" fn landfill_fresh(ledger: &mut [u8]) -> u8
-    ensures value { result ≡ cond (eqb (length ledger.old) imageBytes) 0 3 }
-    ensures ledger_after { ledger.new ≡ freshLeft ledger.old }
+    ensures value { result ≡ cond (eqb (length ledger.old) image_bytes) 0 3 }
+    ensures ledger_after { ledger.new ≡ fresh_left ledger.old }
 {
     if ledger.len() != image::BYTES {
         return 3;
@@ -51,10 +51,10 @@ pub extern "C" fn landfill_take(
     out: &mut [u8],
     answer: &mut [u8],
 ) -> u8
-    ensures value { result ≡ (takeHere ledger.old «record».now out.old answer.old).refusal }
-    ensures ledger_after { ledger.new ≡ takeImage ledger.old «record».now out.old answer.old }
-    ensures out_after { out.new ≡ takeOut ledger.old «record».now out.old answer.old }
-    ensures answer_after { answer.new ≡ takeAnswer ledger.old «record».now out.old answer.old }
+    ensures value { result ≡ (take_here ledger.old «record».now out.old answer.old).refusal }
+    ensures ledger_after { ledger.new ≡ take_image ledger.old «record».now out.old answer.old }
+    ensures out_after { out.new ≡ take_out ledger.old «record».now out.old answer.old }
+    ensures answer_after { answer.new ≡ take_answer ledger.old «record».now out.old answer.old }
 {
     calls::take(ledger, record, out, answer)
 }
@@ -69,11 +69,11 @@ pub extern "C" fn landfill_run(
     accepted: &mut u64,
     work: &mut u64,
 ) -> u8
-    ensures value { result ≡ (runHere ledger.old records.now (length out.old)).refusal }
-    ensures ledger_after { ledger.new ≡ runImage ledger.old (runHere ledger.old records.now (length out.old)) }
-    ensures out_after { out.new ≡ out_of (runHere ledger.old records.now (length out.old)) out.old }
-    ensures accepted_after { accepted.new ≡ length (runHere ledger.old records.now (length out.old)).accepted }
-    ensures work_after { work.new ≡ workOver (runHere ledger.old records.now (length out.old)).accepted }
+    ensures value { result ≡ (run_here ledger.old records.now (length out.old)).refusal }
+    ensures ledger_after { ledger.new ≡ run_image ledger.old (run_here ledger.old records.now (length out.old)) }
+    ensures out_after { out.new ≡ out_of (run_here ledger.old records.now (length out.old)) out.old }
+    ensures accepted_after { accepted.new ≡ length (run_here ledger.old records.now (length out.old)).accepted }
+    ensures work_after { work.new ≡ work_over (run_here ledger.old records.now (length out.old)).accepted }
 {
     calls::run(ledger, records, out, accepted, work)
 }
@@ -86,10 +86,10 @@ pub extern "C" fn landfill_totals(
     brought: &mut u64,
     released: &mut u64,
 ) -> u8
-    ensures value { result ≡ (totalsOf (ledgerOf ledger.now)).refusal }
-    ensures stock_after { stock.new ≡ (totalsOf (ledgerOf ledger.now)).stock }
-    ensures brought_after { brought.new ≡ (totalsOf (ledgerOf ledger.now)).brought }
-    ensures released_after { released.new ≡ (totalsOf (ledgerOf ledger.now)).released }
+    ensures value { result ≡ (totals_of (ledger_of ledger.now)).refusal }
+    ensures stock_after { stock.new ≡ (totals_of (ledger_of ledger.now)).stock }
+    ensures brought_after { brought.new ≡ (totals_of (ledger_of ledger.now)).brought }
+    ensures released_after { released.new ≡ (totals_of (ledger_of ledger.now)).released }
 {
     let totals = image::read(ledger).totals();
     *stock = totals.stock;
@@ -101,8 +101,8 @@ pub extern "C" fn landfill_totals(
 // Answers 0 and the mass in kilograms that a cell names, or 10, 11 or 12 and mass 0; `filled` 0 is an empty cell.
 #[unsafe(no_mangle)]
 pub extern "C" fn landfill_cell(filled: u8, kg: f64, mass: &mut u32) -> u8
-    ensures value { result ≡ (answerTo (cell_of filled kg)).refusal }
-    ensures mass_after { mass.new ≡ (answerTo (cell_of filled kg)).mass }
+    ensures value { result ≡ (answer_to (cell_of filled kg)).refusal }
+    ensures mass_after { mass.new ≡ (answer_to (cell_of filled kg)).mass }
 {
     let numbers = if filled == 0 {
         door::weigh(Cell::Empty).numbers()
@@ -116,8 +116,8 @@ pub extern "C" fn landfill_cell(filled: u8, kg: f64, mass: &mut u32) -> u8
 // Answers 0 and the masses of types 1 to 8 in kilograms into which samples part a total, or 14, 15 or 16 and zeros.
 #[unsafe(no_mangle)]
 pub extern "C" fn landfill_masses(kind: u8, total: u64, samples: &[u8], masses: &mut [u32; 8]) -> u8
-    ensures value { result ≡ (sortedOf kind total samples.now).refusal }
-    ensures masses_after { masses.new ≡ (sortedOf kind total samples.now).masses }
+    ensures value { result ≡ (sorted_of kind total samples.now).refusal }
+    ensures masses_after { masses.new ≡ (sorted_of kind total samples.now).masses }
 {
     let sorted = samples::masses(kind, total, samples);
     let parts = sorted.masses;
@@ -128,8 +128,8 @@ pub extern "C" fn landfill_masses(kind: u8, total: u64, samples: &[u8], masses: 
 // Answers 0 and the correction factor in percent for six uncertainties in percent, or 18 and factor 0.
 #[unsafe(no_mangle)]
 pub extern "C" fn landfill_factor(a: u8, b: u8, c: u8, d: u8, e: u8, g: u8, factor: &mut u8) -> u8
-    ensures value { result ≡ (byPercentages (entering a b c d e g)).refusal }
-    ensures factor_after { factor.new ≡ (byPercentages (entering a b c d e g)).factor }
+    ensures value { result ≡ (by_percentages (entering a b c d e g)).refusal }
+    ensures factor_after { factor.new ≡ (by_percentages (entering a b c d e g)).factor }
 {
     let answer = Uncertainties { a, b, c, d, e, g }.by_percentages();
     *factor = answer.factor;
@@ -148,8 +148,8 @@ pub extern "C" fn landfill_factor_by_codes(
     g: u8,
     factor: &mut u8,
 ) -> u8
-    ensures value { result ≡ (byCodes (entering a b c d e g)).refusal }
-    ensures factor_after { factor.new ≡ (byCodes (entering a b c d e g)).factor }
+    ensures value { result ≡ (by_codes (entering a b c d e g)).refusal }
+    ensures factor_after { factor.new ≡ (by_codes (entering a b c d e g)).factor }
 {
     let answer = Uncertainties { a, b, c, d, e, g }.by_codes();
     *factor = answer.factor;
@@ -166,10 +166,10 @@ pub extern "C" fn landfill_repair(
     report: &mut [u8],
     changed: &mut u64,
 ) -> u8
-    ensures value { result ≡ (repairedOf order.now file.now out.old report.old).refusal }
-    ensures out_after { out.new ≡ outLeft order.now file.now out.old report.old }
-    ensures report_after { report.new ≡ reportLeft order.now file.now out.old report.old }
-    ensures changed_after { changed.new ≡ (repairedOf order.now file.now out.old report.old).changed }
+    ensures value { result ≡ (repaired_of order.now file.now out.old report.old).refusal }
+    ensures out_after { out.new ≡ out_left order.now file.now out.old report.old }
+    ensures report_after { report.new ≡ report_left order.now file.now out.old report.old }
+    ensures changed_after { changed.new ≡ (repaired_of order.now file.now out.old report.old).changed }
 {
     let repaired = order::repair(order, file, out, report);
     *changed = repaired.changed;
@@ -192,13 +192,13 @@ pub extern "C" fn landfill_tunisia(
     years: &mut u64,
     refused: &mut u8,
 ) -> u8
-    ensures value { result ≡ (reductionOf file.now first last electricity.now fuel.now).refusal }
-    ensures reference_after { reference.new ≡ (reductionOf file.now first last electricity.now fuel.now).reference }
-    ensures project_after { project.new ≡ (reductionOf file.now first last electricity.now fuel.now).project }
-    ensures reduction_after { reduction.new ≡ (reductionOf file.now first last electricity.now fuel.now).reduction }
-    ensures bound_after { bound.new ≡ (reductionOf file.now first last electricity.now fuel.now).bound }
-    ensures years_after { years.new ≡ (reductionOf file.now first last electricity.now fuel.now).years }
-    ensures refused_after { refused.new ≡ (reductionOf file.now first last electricity.now fuel.now).refused }
+    ensures value { result ≡ (reduction_of file.now first last electricity.now fuel.now).refusal }
+    ensures reference_after { reference.new ≡ (reduction_of file.now first last electricity.now fuel.now).reference }
+    ensures project_after { project.new ≡ (reduction_of file.now first last electricity.now fuel.now).project }
+    ensures reduction_after { reduction.new ≡ (reduction_of file.now first last electricity.now fuel.now).reduction }
+    ensures bound_after { bound.new ≡ (reduction_of file.now first last electricity.now fuel.now).bound }
+    ensures years_after { years.new ≡ (reduction_of file.now first last electricity.now fuel.now).years }
+    ensures refused_after { refused.new ≡ (reduction_of file.now first last electricity.now fuel.now).refused }
 {
     let over = tunisia::reduction_over(file, first, last, electricity, fuel);
     let less = over.reduction;
@@ -227,9 +227,9 @@ pub extern "C" fn landfill_columns(
     figures: &mut [u64],
     stocks: &mut [u64; 8],
 ) -> u8
-    ensures value { result ≡ (filledOf file.now (nine wood.old paper.old food.old textiles.old garden.old inert.old domestic.old industrial.old figures.old)).refusal }
-    ensures figures_after { nine wood.new paper.new food.new textiles.new garden.new inert.new domestic.new industrial.new figures.new ≡ columnsOf file.now (nine wood.old paper.old food.old textiles.old garden.old inert.old domestic.old industrial.old figures.old) }
-    ensures stocks_after { stocks.new ≡ (filledOf file.now (nine wood.old paper.old food.old textiles.old garden.old inert.old domestic.old industrial.old figures.old)).stocks }
+    ensures value { result ≡ (filled_of file.now (nine wood.old paper.old food.old textiles.old garden.old inert.old domestic.old industrial.old figures.old)).refusal }
+    ensures figures_after { nine wood.new paper.new food.new textiles.new garden.new inert.new domestic.new industrial.new figures.new ≡ columns_of file.now (nine wood.old paper.old food.old textiles.old garden.old inert.old domestic.old industrial.old figures.old) }
+    ensures stocks_after { stocks.new ≡ (filled_of file.now (nine wood.old paper.old food.old textiles.old garden.old inert.old domestic.old industrial.old figures.old)).stocks }
 {
     let filled = columns::fill(
         file, wood, paper, food, textiles, garden, inert, domestic, industrial, figures,
@@ -249,11 +249,11 @@ pub extern "C" fn landfill_take_month(
     out: &mut [u8],
     answer: &mut [u8],
 ) -> u8
-    ensures value { result ≡ (takeMonthHere ledger.old totals.old «record».now out.old answer.old).refusal }
-    ensures ledger_after { ledger.new ≡ imageThen (takeMonthHere ledger.old totals.old «record».now out.old answer.old) ledger.old }
-    ensures totals_after { totals.new ≡ monthTotalsHere ledger.old totals.old «record».now out.old answer.old }
-    ensures out_after { out.new ≡ outThen (takeMonthHere ledger.old totals.old «record».now out.old answer.old) out.old }
-    ensures answer_after { answer.new ≡ answered (takeMonthHere ledger.old totals.old «record».now out.old answer.old) answer.old }
+    ensures value { result ≡ (take_month_here ledger.old totals.old «record».now out.old answer.old).refusal }
+    ensures ledger_after { ledger.new ≡ image_then (take_month_here ledger.old totals.old «record».now out.old answer.old) ledger.old }
+    ensures totals_after { totals.new ≡ month_totals_here ledger.old totals.old «record».now out.old answer.old }
+    ensures out_after { out.new ≡ out_then (take_month_here ledger.old totals.old «record».now out.old answer.old) out.old }
+    ensures answer_after { answer.new ≡ answered (take_month_here ledger.old totals.old «record».now out.old answer.old) answer.old }
 {
     month_calls::take(ledger, totals, record, out, answer)
 }
@@ -269,12 +269,12 @@ pub extern "C" fn landfill_run_months(
     accepted: &mut u64,
     work: &mut u64,
 ) -> u8
-    ensures value { result ≡ (runMonthsHere ledger.old totals.old records.now (length out.old)).refusal }
-    ensures ledger_after { ledger.new ≡ runImage ledger.old (runMonthsHere ledger.old totals.old records.now (length out.old)) }
-    ensures totals_after { totals.new ≡ totalsAfter totals.old (runMonthsHere ledger.old totals.old records.now (length out.old)).accepted }
-    ensures out_after { out.new ≡ out_of (runMonthsHere ledger.old totals.old records.now (length out.old)) out.old }
-    ensures accepted_after { accepted.new ≡ length (runMonthsHere ledger.old totals.old records.now (length out.old)).accepted }
-    ensures work_after { work.new ≡ workOver (runMonthsHere ledger.old totals.old records.now (length out.old)).accepted }
+    ensures value { result ≡ (run_months_here ledger.old totals.old records.now (length out.old)).refusal }
+    ensures ledger_after { ledger.new ≡ run_image ledger.old (run_months_here ledger.old totals.old records.now (length out.old)) }
+    ensures totals_after { totals.new ≡ totals_after totals.old (run_months_here ledger.old totals.old records.now (length out.old)).accepted }
+    ensures out_after { out.new ≡ out_of (run_months_here ledger.old totals.old records.now (length out.old)) out.old }
+    ensures accepted_after { accepted.new ≡ length (run_months_here ledger.old totals.old records.now (length out.old)).accepted }
+    ensures work_after { work.new ≡ work_over (run_months_here ledger.old totals.old records.now (length out.old)).accepted }
 {
     month_calls::run(ledger, totals, records, out, accepted, work)
 }
@@ -288,10 +288,10 @@ pub extern "C" fn landfill_point(
     low: &mut f64,
     high: &mut f64,
 ) -> u8
-    ensures value { result ≡ (chartedOf figure bound).refusal }
-    ensures at_after { at.new ≡ (chartedOf figure bound).point.figure }
-    ensures low_after { low.new ≡ (chartedOf figure bound).point.low }
-    ensures high_after { high.new ≡ (chartedOf figure bound).point.high }
+    ensures value { result ≡ (charted_of figure bound).refusal }
+    ensures at_after { at.new ≡ (charted_of figure bound).point.figure }
+    ensures low_after { low.new ≡ (charted_of figure bound).point.low }
+    ensures high_after { high.new ≡ (charted_of figure bound).point.high }
 {
     let charted = door::chart(figure, bound);
     let point = charted.point;

@@ -5,47 +5,47 @@ use Prim.Native.Nat.{ℕ, ◌+◌, ◌-◌, ◌^◌, ◌≤◌, ◌<◌}
 use native.Mathlib.Omega.{arith}
 use lib.ListN.{get_or}
 use Rattle.numbers.specs.Eight.{eight}
-use Rattle.numbers.proofs.Eight.{eight-at, eight-same, sum-plus}
-use Rattle.record.specs.Fields.{kind_of, climateOf, depositOf}
+use Rattle.numbers.proofs.Eight.{eight_at, eight_same, sum_plus}
+use Rattle.record.specs.Fields.{kind_of, climate_of, deposit_of}
 use Rattle.carbon.specs.Carbon.{entry_at}
 use Rattle.carbon.specs.Carbon.{left_of}
-use Rattle.ledger.specs.Step.{broughtAt, stockAt, releasedAt, newBrought, held, newStock, release, newReleased, x0Of, after}
-use Rattle.carbon.proofs.Laws.{entry-small, left-most}
-use Rattle.ledger.specs.Take.{acceptedOf, totalReleased}
+use Rattle.ledger.specs.Step.{brought_at, stock_at, released_at, new_brought, held, new_stock, release, new_released, x0_of, after}
+use Rattle.carbon.proofs.Laws.{entry_small, left_most}
+use Rattle.ledger.specs.Take.{accepted_of, total_released}
 use Rattle.ledger.specs.declared.book.Ledger.{Ledger}
 
 module _ (l : Ledger) (bytes : List ℕ) (t : ℕ) (place : t < 8) where
-  pub brought-after : broughtAt (after l bytes) t ≡ broughtAt l t + depositOf bytes t
-  unfolding after newBrought
-  brought-after = eight-at (newBrought l bytes) t place
+  pub brought_after : brought_at (after l bytes) t ≡ brought_at l t + deposit_of bytes t
+  unfolding after new_brought
+  brought_after = eight_at (new_brought l bytes) t place
 
-  pub stock-after : stockAt (after l bytes) t ≡ left_of (stockAt l t + depositOf bytes t) (entry_at (kind_of bytes) (climateOf bytes) t)
-  unfolding after newStock held
-  stock-after = eight-at (newStock l bytes) t place
+  pub stock_after : stock_at (after l bytes) t ≡ left_of (stock_at l t + deposit_of bytes t) (entry_at (kind_of bytes) (climate_of bytes) t)
+  unfolding after new_stock held
+  stock_after = eight_at (new_stock l bytes) t place
 
-  pub release-answered : get_or (acceptedOf l bytes).releases t 0 ≡ release l bytes t
-  unfolding acceptedOf
-  release-answered = eight-at (release l bytes) t place
+  pub release_answered : get_or (accepted_of l bytes).releases t 0 ≡ release l bytes t
+  unfolding accepted_of
+  release_answered = eight_at (release l bytes) t place
 
-  pub released-after : releasedAt (after l bytes) t ≡ releasedAt l t + release l bytes t
-  unfolding after newReleased
-  released-after = eight-at (newReleased l bytes) t place
+  pub released_after : released_at (after l bytes) t ≡ released_at l t + release l bytes t
+  unfolding after new_released
+  released_after = eight_at (new_released l bytes) t place
 
-  pub balanced : release l bytes t + stockAt (after l bytes) t ≡ stockAt l t + depositOf bytes t
-  unfolding release newStock held
+  pub balanced : release l bytes t + stock_at (after l bytes) t ≡ stock_at l t + deposit_of bytes t
+  unfolding release new_stock held
   balanced =
       omega (
         arith,
-        stock-after,
-        left-most (stockAt l t + depositOf bytes t) (entry_at (kind_of bytes) (climateOf bytes) t) (entry-small (kind_of bytes) (climateOf bytes) t),
+        stock_after,
+        left_most (stock_at l t + deposit_of bytes t) (entry_at (kind_of bytes) (climate_of bytes) t) (entry_small (kind_of bytes) (climate_of bytes) t),
       )
 
 -- What was released between the two ledgers is the releases.
-pub released-between : (l : Ledger) (bytes : List ℕ) → eight (λ t. releasedAt (after l bytes) t - releasedAt l t) ≡ eight (release l bytes)
-released-between l bytes =
-    eight-same (λ t. releasedAt (after l bytes) t - releasedAt l t) (release l bytes) (λ t place. omega (arith, released-after l bytes t place))
+pub released_between : (l : Ledger) (bytes : List ℕ) → eight (λ t. released_at (after l bytes) t - released_at l t) ≡ eight (release l bytes)
+released_between l bytes =
+    eight_same (λ t. released_at (after l bytes) t - released_at l t) (release l bytes) (λ t place. omega (arith, released_after l bytes t place))
 
 -- What all types have released grows by x0.
-pub released-grows : (l : Ledger) (bytes : List ℕ) → totalReleased (after l bytes) ≡ totalReleased l + x0Of l bytes
-unfolding after newReleased totalReleased x0Of
-released-grows l bytes = sum-plus (releasedAt l) (release l bytes) 8
+pub released_grows : (l : Ledger) (bytes : List ℕ) → total_released (after l bytes) ≡ total_released l + x0_of l bytes
+unfolding after new_released total_released x0_of
+released_grows l bytes = sum_plus (released_at l) (release l bytes) 8

@@ -1,13 +1,13 @@
 // The ledger, from value to value.
 ghost use Rattle.std.specs.Prelude.{cond, ◌&&◌, ◌++◌, ◌≡◌, ◌<◌, eqb, length, drop};
 ghost use Rattle.numbers.specs.Eight.{eight};
-ghost use Rattle.waste.specs.Kind.{isKind};
-ghost use Rattle.waste.specs.Waste.{isClimate};
-ghost use Rattle.record.specs.Fields.{recordBytes, kind_of, climateOf};
+ghost use Rattle.waste.specs.Kind.{is_kind};
+ghost use Rattle.waste.specs.Waste.{is_climate};
+ghost use Rattle.record.specs.Fields.{record_bytes, kind_of, climate_of};
 ghost use Rattle.carbon.specs.Carbon.{entry_at};
-ghost use Rattle.ledger.specs.Step.{fresh, decayedAt, periodOfAll};
-ghost use Rattle.ledger.specs.Refusal.{sound, refusalOf};
-ghost use Rattle.ledger.specs.Take.{acceptedOf, refusedOf, entered_of, outputRecord, take_of, written_of, totalsOf};
+ghost use Rattle.ledger.specs.Step.{fresh, decayed_at, period_of_all};
+ghost use Rattle.ledger.specs.Refusal.{sound, refusal_of};
+ghost use Rattle.ledger.specs.Take.{accepted_of, refused_of, entered_of, output_record, take_of, written_of, totals_of};
 
 use crate::answer::{Answer, Entered, Totals};
 use crate::period::{Decayed, Period, decay_work};
@@ -28,7 +28,7 @@ pub struct Ledger {
 
 // Tells whether kind and climate are zero with no records, and codes with some.
 fn has_codes(n: u16, kind: u8, climate: u8) -> bool
-    ensures { result ≡ cond (eqb n 0) (eqb kind 0 && eqb climate 0) (isKind kind && isClimate climate) }
+    ensures { result ≡ cond (eqb n 0) (eqb kind 0 && eqb climate 0) (is_kind kind && is_climate climate) }
 {
     if n == 0 {
         return (kind == 0) & (climate == 0);
@@ -101,9 +101,9 @@ impl Ledger {
 
     // Decays one type: answers what place t has after an accepted record, given the table entries of its kind and climate.
     fn decay(self, entries: [u32; 8], bytes: &[u8], t: usize) -> Decayed
-        requires record_bytes_value { (refusalOf self bytes.now recordBytes ≡ 0) × (t < 8) }
-        requires entries_value { entries ≡ eight (entry_at (kind_of bytes.now) (climateOf bytes.now)) }
-        ensures { result ≡ decayedAt self bytes.now t }
+        requires record_bytes_value { (refusal_of self bytes.now record_bytes ≡ 0) × (t < 8) }
+        requires entries_value { entries ≡ eight (entry_at (kind_of bytes.now) (climate_of bytes.now)) }
+        ensures { result ≡ decayed_at self bytes.now t }
     {
         let deposit = record::deposit(bytes, t as u8);
         let held = self.stock[t] + deposit;
@@ -119,9 +119,9 @@ impl Ledger {
     // Decays every type but inert waste, which has no carbon; each place is written out, so that no copy of the ledger is made for
     // one known only at run time.
     fn decay_all(self, entries: [u32; 8], bytes: &[u8]) -> Period
-        requires record_bytes_value { refusalOf self bytes.now recordBytes ≡ 0 }
-        requires entries_value { entries ≡ eight (entry_at (kind_of bytes.now) (climateOf bytes.now)) }
-        ensures { result ≡ periodOfAll self bytes.now }
+        requires record_bytes_value { refusal_of self bytes.now record_bytes ≡ 0 }
+        requires entries_value { entries ≡ eight (entry_at (kind_of bytes.now) (climate_of bytes.now)) }
+        ensures { result ≡ period_of_all self bytes.now }
     {
         let a = self.decay(entries, bytes, 0);
         let b = self.decay(entries, bytes, 1);
@@ -148,10 +148,10 @@ impl Ledger {
     // Enters an accepted record: answers the ledger after it, what its output record says and its decay work, and writes the output
     // record at the start of the output. `released` stays equal to T − R.
     pub fn enter(self, entries: [u32; 8], bytes: &[u8], out: &mut [u8]) -> Entered
-        requires out_value { refusalOf self bytes.now (length out.old) ≡ 0 }
-        requires entries_value { entries ≡ eight (entry_at (kind_of bytes.now) (climateOf bytes.now)) }
+        requires out_value { refusal_of self bytes.now (length out.old) ≡ 0 }
+        requires entries_value { entries ≡ eight (entry_at (kind_of bytes.now) (climate_of bytes.now)) }
         ensures value { result ≡ entered_of self bytes.now }
-        ensures out_after { out.new ≡ outputRecord (acceptedOf self bytes.now) ++ drop recordBytes out.old }
+        ensures out_after { out.new ≡ output_record (accepted_of self bytes.now) ++ drop record_bytes out.old }
     {
         let year = self.year.after(self.n, bytes);
         let all = self.decay_all(entries, bytes);
@@ -179,7 +179,7 @@ impl Ledger {
 
     // Answers that a record is refused by a number; the ledger comes back as it is.
     pub fn refused(self, refusal: u8) -> Answer
-        ensures { result ≡ refusedOf self refusal }
+        ensures { result ≡ refused_of self refusal }
     {
         Answer {
             ledger: self,
@@ -229,7 +229,7 @@ impl Ledger {
 
     // Answers the carbon left, brought in and released so far over all types; an unsound ledger is refused with 3.
     pub fn totals(self) -> Totals
-        ensures { result ≡ totalsOf self }
+        ensures { result ≡ totals_of self }
     {
         if !self.is_sound() {
             return Totals {

@@ -2,8 +2,8 @@
 // standard output, and nothing for a payload that is too short for it; no contract can say what is printed. The program `cases`
 // calls them.
 ghost use Rattle.std.specs.Prelude.{◌≡◌, ◌≤◌, length, take};
-ghost use Rattle.image.specs.Image.{imageBytes, ledgerOf};
-ghost use Rattle.lines.specs.Listing.{mostText};
+ghost use Rattle.image.specs.Image.{image_bytes, ledger_of};
+ghost use Rattle.lines.specs.Listing.{most_text};
 
 use ledger::{Answer, Ledger};
 use run::Outcome;
@@ -26,8 +26,8 @@ pub fn decay(payload: &[u8])
 
 // Answers the ledger of a payload, whose image stands first.
 pub fn ledger_of(payload: &[u8]) -> Ledger
-    requires { imageBytes ≤ length payload.now }
-    ensures { result ≡ ledgerOf (take imageBytes payload.now) }
+    requires { image_bytes ≤ length payload.now }
+    ensures { result ≡ ledger_of (take image_bytes payload.now) }
 {
     image::read(&payload[0..image::BYTES])
 }
@@ -98,7 +98,7 @@ pub fn run(payload: &[u8])
 
 // Answers room for the text of any listing.
 fn text() -> [u8; lines::TEXT]
-    ensures { mostText ≡ length result }
+    ensures { most_text ≡ length result }
 {
     [0; lines::TEXT]
 }

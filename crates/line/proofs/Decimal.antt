@@ -7,16 +7,16 @@ use native.Mathlib.Decide.{dec_le}
 use native.Mathlib.Omega.{arith}
 use lib.ListN.{length, get_or, length-append, get_or-append}
 use borrow.Author.Tests.{lt-ltb, le-ltb}
-use Rattle.line.specs.Line.{digitsOf, decimalOf, read_on}
+use Rattle.line.specs.Line.{digits_of, decimal_of, read_on}
 
 -- Wherever there is room for the digits of n they are the same.
-same : (k j n : ℕ) → n < k → n < j → digitsOf k n ≡ digitsOf j n
-unfolding digitsOf
+same : (k j n : ℕ) → n < k → n < j → digits_of k n ≡ digits_of j n
+unfolding digits_of
 same zero j n a b = absurd (omega arith)
 same (suc k) zero n a b = absurd (omega arith)
 same (suc k) (suc j) n a b = go (dec_le 10 n) (λ l. same k j (n / 10) (omega arith) (omega arith))
   where
-    go : Dec (10 ≤ n) → (10 ≤ n → digitsOf k (n / 10) ≡ digitsOf j (n / 10)) → digitsOf (suc k) n ≡ digitsOf (suc j) n
+    go : Dec (10 ≤ n) → (10 ≤ n → digits_of k (n / 10) ≡ digits_of j (n / 10)) → digits_of (suc k) n ≡ digits_of (suc j) n
     go (yes l) rest = rw (rest l)
     go (no l) rest = simp (lt-ltb n 10 (omega arith))
 
@@ -33,67 +33,67 @@ module _ (P : ℕ → Type 0) (one : (n : ℕ) → n < 10 → P n) (more : (n : 
   by_digits : (n : ℕ) → P n
   by_digits n = below (suc n) n (omega arith)
 
-pub one-digit : (n : ℕ) → n < 10 → decimalOf n ≡ (48 + n) ∷ []
-unfolding decimalOf digitsOf
-one-digit n h = simp (lt-ltb n 10 h)
+pub one_digit : (n : ℕ) → n < 10 → decimal_of n ≡ (48 + n) ∷ []
+unfolding decimal_of digits_of
+one_digit n h = simp (lt-ltb n 10 h)
 
-pub more-digits : (n : ℕ) → 10 ≤ n → decimalOf n ≡ decimalOf (n / 10) ++ ((48 + n % 10) ∷ [])
-unfolding decimalOf digitsOf
-more-digits n h = simp (le-ltb n 10 h) (rw (same n (suc (n / 10)) (n / 10) (omega arith) (omega arith)))
+pub more_digits : (n : ℕ) → 10 ≤ n → decimal_of n ≡ decimal_of (n / 10) ++ ((48 + n % 10) ∷ [])
+unfolding decimal_of digits_of
+more_digits n h = simp (le-ltb n 10 h) (rw (same n (suc (n / 10)) (n / 10) (omega arith) (omega arith)))
 
-pub one_more : (n : ℕ) → 10 ≤ n → length (decimalOf n) ≡ length (decimalOf (n / 10)) + 1
-one_more n h = ap length (more-digits n h) ∙ length-append (decimalOf (n / 10)) ((48 + n % 10) ∷ [])
+pub one_more : (n : ℕ) → 10 ≤ n → length (decimal_of n) ≡ length (decimal_of (n / 10)) + 1
+one_more n h = ap length (more_digits n h) ∙ length-append (decimal_of (n / 10)) ((48 + n % 10) ∷ [])
 
-pub two-more : (n : ℕ) → 100 ≤ n → length (decimalOf n) ≡ length (decimalOf (n / 100)) + 2
-two-more n h =
+pub two_more : (n : ℕ) → 100 ≤ n → length (decimal_of n) ≡ length (decimal_of (n / 100)) + 2
+two_more n h =
     let same : n / 10 / 10 ≡ n / 100 = omega arith in
-    omega (arith, one_more n (omega arith), one_more (n / 10) (omega arith), ap (λ (m : ℕ). length (decimalOf m)) same)
+    omega (arith, one_more n (omega arith), one_more (n / 10) (omega arith), ap (λ (m : ℕ). length (decimal_of m)) same)
 
 -- A number below 10 ^ (k + 1) has at most k + 1 digits.
 abbrev Few : ℕ → Type 0
-Few n = (k : ℕ) → n < 10 ^ suc k → length (decimalOf n) ≤ suc k
+Few n = (k : ℕ) → n < 10 ^ suc k → length (decimal_of n) ≤ suc k
 
-pub few-digits : (n : ℕ) → Few n
-few-digits = by_digits Few (λ n h k b. rw (one-digit n h) (omega arith)) more
+pub few_digits : (n : ℕ) → Few n
+few_digits = by_digits Few (λ n h k b. rw (one_digit n h) (omega arith)) more
   where
     more : (n : ℕ) → 10 ≤ n → Few (n / 10) → Few n
     more n h rest zero b = absurd (omega arith)
     more n h rest (suc k) b = let small : n < 10 ^ suc k * 10 = rw pow-suc at b in omega (arith, one_more n h, rest k (omega arith))
 
 -- There is a first digit, and it is 0 for the number 0 alone.
-pub first-digit : (n : ℕ) → (0 < length (decimalOf n)) × (0 < n → 48 < get_or (decimalOf n) 0 0)
-first-digit =
-    by_digits (λ n. (0 < length (decimalOf n)) × (0 < n → 48 < get_or (decimalOf n) 0 0))
-    (λ n h. rw (one-digit n h) (omega arith, λ p. omega arith))
+pub first_digit : (n : ℕ) → (0 < length (decimal_of n)) × (0 < n → 48 < get_or (decimal_of n) 0 0)
+first_digit =
+    by_digits (λ n. (0 < length (decimal_of n)) × (0 < n → 48 < get_or (decimal_of n) 0 0))
+    (λ n h. rw (one_digit n h) (omega arith, λ p. omega arith))
     λ n h rest. (
       omega (arith, one_more n h),
-      λ p. rw (more-digits n h, get_or-append (decimalOf (n / 10)) ((48 + n % 10) ∷ []) 0 0 rest.0) (rest.1 (omega arith)),
+      λ p. rw (more_digits n h, get_or-append (decimal_of (n / 10)) ((48 + n % 10) ∷ []) 0 0 rest.0) (rest.1 (omega arith)),
     )
 
 -- The last k digits of a number; all of them are the number.
-unfoldable pub lastDigits : ℕ → ℕ → List ℕ
-lastDigits zero n = []
-lastDigits (suc k) n = lastDigits k (n / 10) ++ ((48 + n % 10) ∷ [])
+unfoldable pub last_digits : ℕ → ℕ → List ℕ
+last_digits zero n = []
+last_digits (suc k) n = last_digits k (n / 10) ++ ((48 + n % 10) ∷ [])
 
-pub all_digits : (n : ℕ) → decimalOf n ≡ lastDigits (length (decimalOf n)) n
-unfolding lastDigits
+pub all_digits : (n : ℕ) → decimal_of n ≡ last_digits (length (decimal_of n)) n
+unfolding last_digits
 all_digits =
-    by_digits (λ n. decimalOf n ≡ lastDigits (length (decimalOf n)) n)
-    (λ n h. let same : n % 10 ≡ n = omega arith in rw (one-digit n h) (rw same))
+    by_digits (λ n. decimal_of n ≡ last_digits (length (decimal_of n)) n)
+    (λ n h. let same : n % 10 ≡ n = omega arith in rw (one_digit n h) (rw same))
     λ n h rest.
-    let size : length (decimalOf n) ≡ suc (length (decimalOf (n / 10))) = omega (arith, one_more n h) in
-    rw size (more-digits n h ∙ ap (λ (front : List ℕ). front ++ ((48 + n % 10) ∷ [])) rest)
+    let size : length (decimal_of n) ≡ suc (length (decimal_of (n / 10))) = omega (arith, one_more n h) in
+    rw size (more_digits n h ∙ ap (λ (front : List ℕ). front ++ ((48 + n % 10) ∷ [])) rest)
 
-read-on : (xs ys : List ℕ) (n : ℕ) → read_on n (xs ++ ys) ≡ read_on (read_on n xs) ys
-read-on [] ys n = refl
-read-on (x ∷ xs) ys n = read-on xs ys (10 * n + (x - 48))
+read_on_lem : (xs ys : List ℕ) (n : ℕ) → read_on n (xs ++ ys) ≡ read_on (read_on n xs) ys
+read_on_lem [] ys n = refl
+read_on_lem (x ∷ xs) ys n = read_on_lem xs ys (10 * n + (x - 48))
 
 -- The digits say the number.
-pub digits-read-back : (n : ℕ) → read_on 0 (decimalOf n) ≡ n
-digits-read-back =
-    by_digits (λ n. read_on 0 (decimalOf n) ≡ n) (λ n h. rw (one-digit n h) (omega arith)) λ n h read.
-    rw (more-digits n h, read-on (decimalOf (n / 10)) ((48 + n % 10) ∷ []) 0, read) (omega arith)
+pub digits_read_back : (n : ℕ) → read_on 0 (decimal_of n) ≡ n
+digits_read_back =
+    by_digits (λ n. read_on 0 (decimal_of n) ≡ n) (λ n h. rw (one_digit n h) (omega arith)) λ n h read.
+    rw (more_digits n h, read_on_lem (decimal_of (n / 10)) ((48 + n % 10) ∷ []) 0, read) (omega arith)
 
 -- Two different numbers have different texts.
-pub same_number : (m n : ℕ) → decimalOf m ≡ decimalOf n → m ≡ n
-same_number m n e = sym (digits-read-back m) ∙ ap (read_on 0) e ∙ digits-read-back n
+pub same_number : (m n : ℕ) → decimal_of m ≡ decimal_of n → m ≡ n
+same_number m n e = sym (digits_read_back m) ∙ ap (read_on 0) e ∙ digits_read_back n

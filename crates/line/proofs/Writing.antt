@@ -6,12 +6,12 @@ use native.Mathlib.Nat.{zero-add}
 use native.Mathlib.Omega.{arith}
 use lib.ListN.{length, drop, set, replicate, length-set, length-append, length-replicate, replicate-append-replicate}
 use lib.Seq.{sets, set_comm, length-sets, sets-eq, drop_at}
-use Rattle.numbers.proofs.Bytes.{sets-join}
+use Rattle.numbers.proofs.Bytes.{sets_join}
 use Rattle.line.specs.declared.form.Line.{Line}
-use Rattle.line.specs.Line.{decimalOf, lineBytes, padded, Lendable}
+use Rattle.line.specs.Line.{decimal_of, line_bytes, padded, Lendable}
 use Rattle.line.specs.Writing.{Writes}
-use Rattle.line.proofs.Decimal.{lastDigits, all_digits}
-use Rattle.line.proofs.Line.{line-lendable}
+use Rattle.line.proofs.Decimal.{last_digits, all_digits}
+use Rattle.line.proofs.Line.{line_lendable}
 
 -- What is copied is written.
 pub copied : (l : List ℕ) (at : ℕ) (xs : List ℕ) {r : List ℕ} → r ≡ sets l at xs → Writes l at xs r (at + length xs)
@@ -21,16 +21,16 @@ pub one_byte : {l : List ℕ} {at : ℕ} (b : ℕ) → Writes l at (b ∷ []) (s
 one_byte {l} {at} b = record { stands = refl; as_many = length-set l at b; ends = refl }
 
 module _ {l m xs : List ℕ} {at mid : ℕ} (first : Writes l at xs m mid) where
-  pub write-on : {r ys : List ℕ} {end : ℕ} → Writes m mid ys r end → Writes l at (xs ++ ys) r end
-  write-on {ys = ys} next =
+  pub write_on : {r ys : List ℕ} {end : ℕ} → Writes m mid ys r end → Writes l at (xs ++ ys) r end
+  write_on {ys = ys} next =
       record {
-        stands = next.stands ∙ rw (first.stands, first.ends) (sets-join xs ys l at);
+        stands = next.stands ∙ rw (first.stands, first.ends) (sets_join xs ys l at);
         as_many = next.as_many ∙ first.as_many;
         ends = simp length-append (omega arith);
       }
 
   pub write_byte : (b : ℕ) → Writes l at (xs ++ (b ∷ [])) (set m mid b) (mid + 1)
-  write_byte b = write-on (one_byte b)
+  write_byte b = write_on (one_byte b)
 
 -- A byte before others that are written is written first as well.
 set_first : (xs l : List ℕ) (i at b : ℕ) → i < at → set (sets l at xs) i b ≡ sets (set l i b) at xs
@@ -42,54 +42,54 @@ set_first (x ∷ xs) l i at b h =
 -- A number written from its last digit on: the digits from place i on stand, and left is what is before them.
 pub record FromBehind (entry : List ℕ) (at n : ℕ) (exit : List ℕ) (i left : ℕ) : Type 0 where
   pub digits : List ℕ
-  pub not-before : at ≤ i
-  pub whole : decimalOf n ≡ lastDigits (i - at) left ++ digits
+  pub not_before : at ≤ i
+  pub whole : decimal_of n ≡ last_digits (i - at) left ++ digits
   pub stands : exit ≡ sets entry i digits
 
-pub no_digit : (l : List ℕ) (at n : ℕ) {i : ℕ} → i ≡ at + length (decimalOf n) → FromBehind l at n l i n
+pub no_digit : (l : List ℕ) (at n : ℕ) {i : ℕ} → i ≡ at + length (decimal_of n) → FromBehind l at n l i n
 no_digit l at n {i} e =
-    let all : i - at ≡ length (decimalOf n) = omega arith in
-    record { digits = []; not-before = omega arith; whole = rw all (all_digits n ∙ sym (append-nil (lastDigits (length (decimalOf n)) n))); stands = refl }
+    let all : i - at ≡ length (decimal_of n) = omega arith in
+    record { digits = []; not_before = omega arith; whole = rw all (all_digits n ∙ sym (append-nil (last_digits (length (decimal_of n)) n))); stands = refl }
 
 module _ {l m : List ℕ} {at n i left : ℕ} (h : FromBehind l at n m i left) where
-  pub digit-before : at < i → FromBehind l at n (set m (i - 1) (48 + left % 10)) (i - 1) (left / 10)
-  unfolding lastDigits
-  digit-before more =
+  pub digit_before : at < i → FromBehind l at n (set m (i - 1) (48 + left % 10)) (i - 1) (left / 10)
+  unfolding last_digits
+  digit_before more =
       let digit = 48 + left % 10 in
       let count : i - at ≡ suc (i - 1 - at) = omega arith in
       let next : suc (i - 1) ≡ i = omega arith in
-      let split : lastDigits (i - at) left ≡ lastDigits (i - 1 - at) (left / 10) ++ (digit ∷ []) = rw count in
+      let split : last_digits (i - at) left ≡ last_digits (i - 1 - at) (left / 10) ++ (digit ∷ []) = rw count in
       record {
         digits = digit ∷ h.digits;
-        not-before = omega arith;
-        whole = h.whole ∙ rw split (append_assoc (lastDigits (i - 1 - at) (left / 10)) (digit ∷ []) h.digits);
+        not_before = omega arith;
+        whole = h.whole ∙ rw split (append_assoc (last_digits (i - 1 - at) (left / 10)) (digit ∷ []) h.digits);
         stands = rw (h.stands, next) (set_first h.digits l (i - 1) i digit (omega arith));
       }
 
-  pub all-stand : i ≤ at → Writes l at (decimalOf n) m (at + length (decimalOf n))
-  unfolding lastDigits
-  all-stand none =
-      let here : i ≡ at = omega (arith, h.not-before) in
+  pub all_stand : i ≤ at → Writes l at (decimal_of n) m (at + length (decimal_of n))
+  unfolding last_digits
+  all_stand none =
+      let here : i ≡ at = omega (arith, h.not_before) in
       let zero_left : i - at ≡ 0 = omega arith in
-      let whole : decimalOf n ≡ h.digits = h.whole ∙ rw zero_left in
-      copied l at (decimalOf n) (h.stands ∙ rw (here, ← whole))
+      let whole : decimal_of n ≡ h.digits = h.whole ∙ rw zero_left in
+      copied l at (decimal_of n) (h.stands ∙ rw (here, ← whole))
 
 -- A text that is written into zeros takes the place of as many.
-in-zeros : (text : List ℕ) (k : ℕ) → sets (replicate (length text + k) 0) 0 text ≡ text ++ replicate k 0
-in-zeros text k =
+in_zeros : (text : List ℕ) (k : ℕ) → sets (replicate (length text + k) 0) 0 text ≡ text ++ replicate k 0
+in_zeros text k =
     let n = length text in
     let zeros : List ℕ = replicate n 0 ++ replicate k 0 in
     let room : 0 + n ≤ length zeros = simp (length-append, length-replicate) (omega arith) in
     let rest : drop (0 + n) zeros ≡ replicate k 0 = rw zero-add (drop_at (replicate n 0) (replicate k 0) n (length-replicate n 0)) in
     rw (← replicate-append-replicate {A = ℕ} n k 0, sets-eq text zeros 0 room, rest)
 
-pub written-line : {bytes text : List ℕ} {len : ℕ} → Writes (replicate lineBytes 0) 0 text bytes len → len ≤ lineBytes
+pub written_line : {bytes text : List ℕ} {len : ℕ} → Writes (replicate line_bytes 0) 0 text bytes len → len ≤ line_bytes
     → let line : Line = record { bytes = bytes; len = len } in (line ≡ padded text) × Lendable line
 unfolding padded
-written-line {bytes} {text} {len} w fits =
+written_line {bytes} {text} {len} w fits =
     let size : len ≡ length text = omega arith in
-    let k = lineBytes - length text in
-    let ninety : length text + k ≡ lineBytes = omega arith in
-    let all : bytes ≡ text ++ replicate k 0 = w.stands ∙ ap (λ (n : ℕ). sets (replicate n 0) 0 text) (sym ninety) ∙ in-zeros text k in
+    let k = line_bytes - length text in
+    let ninety : length text + k ≡ line_bytes = omega arith in
+    let all : bytes ≡ text ++ replicate k 0 = w.stands ∙ ap (λ (n : ℕ). sets (replicate n 0) 0 text) (sym ninety) ∙ in_zeros text k in
     let same : ◌≡◌ {A = Line} (record { bytes = bytes; len = len }) (padded text) = λ i. record { bytes = all i; len = size i } in
-    (same, rw same (line-lendable text (omega arith)))
+    (same, rw same (line_lendable text (omega arith)))

@@ -5,13 +5,13 @@ use Prim.Native.String.{String, [] as []ˢ, ◌∷◌ as ◌∷ˢ◌}
 use Rattle.line.specs.declared.form.Line.{Line}
 
 -- A number below 10 is its digit; any other is n / 10, and then the digit n % 10. At most k digits.
-unfoldable pub digitsOf : ℕ → ℕ → List ℕ
-digitsOf zero n = []
-digitsOf (suc k) n = cond (ltb n 10) ((48 + n) ∷ []) (digitsOf k (n / 10) ++ ((48 + n % 10) ∷ []))
+unfoldable pub digits_of : ℕ → ℕ → List ℕ
+digits_of zero n = []
+digits_of (suc k) n = cond (ltb n 10) ((48 + n) ∷ []) (digits_of k (n / 10) ++ ((48 + n % 10) ∷ []))
 
 -- Every number in plain decimal: n never has more than n + 1 digits.
-unfoldable pub decimalOf : ℕ → List ℕ
-decimalOf n = digitsOf (suc n) n
+unfoldable pub decimal_of : ℕ → List ℕ
+decimal_of n = digits_of (suc n) n
 
 -- Digits read back: each takes the number before it ten times, and adds its own value.
 abbrev pub read_on : ℕ → List ℕ → ℕ
@@ -24,31 +24,31 @@ letters []ˢ = []
 letters (letter ∷ˢ word) = code letter ∷ letters word
 
 -- One space between; every line ends with a byte 10.
-unfoldable pub lineText : List (List ℕ) → List ℕ
-lineText [] = 10 ∷ []
-lineText (word ∷ []) = word ++ (10 ∷ [])
-lineText (word ∷ next ∷ words) = word ++ (32 ∷ lineText (next ∷ words))
+unfoldable pub line_text : List (List ℕ) → List ℕ
+line_text [] = 10 ∷ []
+line_text (word ∷ []) = word ++ (10 ∷ [])
+line_text (word ∷ next ∷ words) = word ++ (32 ∷ line_text (next ∷ words))
 
 -- For each accepted record: period, x0, figure, bound, total R.
-unfoldable pub acceptedText : ℕ → ℕ → ℕ → ℕ → ℕ → List ℕ
-acceptedText period x0 figure bound R =
-    lineText (decimalOf period ∷ decimalOf x0 ∷ decimalOf figure ∷ decimalOf bound ∷ decimalOf R ∷ [])
+unfoldable pub accepted_text : ℕ → ℕ → ℕ → ℕ → ℕ → List ℕ
+accepted_text period x0 figure bound R =
+    line_text (decimal_of period ∷ decimal_of x0 ∷ decimal_of figure ∷ decimal_of bound ∷ decimal_of R ∷ [])
 
 -- At a refusal: `refused`, the number, `at record` and the record's place.
-unfoldable pub refusedText : ℕ → ℕ → List ℕ
-refusedText refusal place =
-    lineText (letters "refused" ∷ decimalOf refusal ∷ letters "at" ∷ letters "record" ∷ decimalOf place ∷ [])
+unfoldable pub refused_text : ℕ → ℕ → List ℕ
+refused_text refusal place =
+    line_text (letters "refused" ∷ decimal_of refusal ∷ letters "at" ∷ letters "record" ∷ decimal_of place ∷ [])
 
 -- 90 bytes hold the longest line.
-abbrev pub lineBytes : ℕ
-lineBytes = 90
+abbrev pub line_bytes : ℕ
+line_bytes = 90
 
 -- An array of 90 bytes and a length by value, unused bytes 0.
 unfoldable pub padded : List ℕ → Line
-padded text = record { bytes = text ++ replicate (lineBytes - length text) 0; len = length text }
+padded text = record { bytes = text ++ replicate (line_bytes - length text) 0; len = length text }
 
 -- What a caller needs to lend the text, `&bytes[..len]`; it follows from `padded`.
 pub record Lendable (line : Line) : Type 0 where
-  pub ninety : length line.bytes ≡ lineBytes
-  pub within : line.len ≤ lineBytes
+  pub ninety : length line.bytes ≡ line_bytes
+  pub within : line.len ≤ line_bytes
   pub whole : line.len ≡ length (take line.len line.bytes)

@@ -4,14 +4,14 @@ mod form;
 mod text;
 
 ghost use Rattle.std.specs.Prelude.{◌≡◌};
-ghost use Rattle.line.specs.Line.{acceptedText, refusedText, padded, Lendable};
+ghost use Rattle.line.specs.Line.{accepted_text, refused_text, padded, Lendable};
 
 pub use form::{BYTES, Line};
 use text::number;
 
 // Answers the line of an accepted record; stock is total R.
 pub fn accepted(period: u16, x0: u64, figure: u64, bound: u64, stock: u64) -> Line
-    ensures value { result ≡ padded (acceptedText period x0 figure bound stock) }
+    ensures value { result ≡ padded (accepted_text period x0 figure bound stock) }
     ensures lendable { Lendable result }
 {
     let mut bytes = [0u8; BYTES];
@@ -25,7 +25,7 @@ pub fn accepted(period: u16, x0: u64, figure: u64, bound: u64, stock: u64) -> Li
 
 // Answers the line of a refusal, by its number, at a record, by its place.
 pub fn refused(refusal: u8, place: u64) -> Line
-    ensures value { result ≡ padded (refusedText refusal place) }
+    ensures value { result ≡ padded (refused_text refusal place) }
     ensures lendable { Lendable result }
 {
     let mut bytes = [0u8; BYTES];

@@ -1,13 +1,13 @@
 // Numbers, written into the bytes of a line.
 ghost use Rattle.std.specs.Prelude.{◌≡◌, ◌++◌, ◌∷◌, [], ◌+◌, ◌≤◌, length};
-ghost use Rattle.line.specs.Line.{decimalOf, lineBytes};
+ghost use Rattle.line.specs.Line.{decimal_of, line_bytes};
 ghost use Rattle.line.specs.Writing.{Writes};
 
 use crate::form::BYTES;
 
 // Answers how many digits a number has.
 fn digits(n: u64) -> usize
-    ensures { (result ≡ length (decimalOf n)) × (result ≤ 20) }
+    ensures { (result ≡ length (decimal_of n)) × (result ≤ 20) }
 {
     let mut count: usize = 1;
     let mut front = n;
@@ -21,8 +21,8 @@ fn digits(n: u64) -> usize
 // Writes a number in plain decimal, its last digit first, and the byte that follows it from a place on, and answers the place
 // after both.
 pub(crate) fn number(out: &mut [u8; BYTES], at: usize, n: u64, follows: u8) -> usize
-    requires { at + 21 ≤ lineBytes }
-    ensures writes { Writes out.old at (decimalOf n ++ (follows ∷ [])) out.new result }
+    requires { at + 21 ≤ line_bytes }
+    ensures writes { Writes out.old at (decimal_of n ++ (follows ∷ [])) out.new result }
     ensures upper_bound { result ≤ at + 21 }
 {
     let end = at + digits(n);

@@ -9,30 +9,30 @@ use borrow.Author.Tests.{eqb-true, ltb-true, ltb-false, eq-eqb, ne_eqb, le-leb, 
 use lib.Dec.{T, eqb, ltb}
 use lib.ListN.{length, take, drop, length-drop, length-append, length-take, take-append-drop}
 use lib.Seq.{length-take-le, take_at, drop_at, drop-drop, take_all, sets-eq}
-use Rattle.record.specs.Fields.{recordBytes}
-use Rattle.carbon.specs.Carbon.{mostRecords}
+use Rattle.record.specs.Fields.{record_bytes}
+use Rattle.carbon.specs.Carbon.{most_records}
 use Rattle.ledger.specs.Step.{fresh}
-use Rattle.run.specs.History.{outputs, recordsOf, Run, out_of, outcomeOf, wholeRun}
-use Rattle.stretches.specs.Stretches.{stretchBytes, stretchRun}
+use Rattle.run.specs.History.{outputs, records_of, Run, out_of, outcome_of, whole_run}
+use Rattle.stretches.specs.Stretches.{stretch_bytes, stretch_run}
 use Rattle.run.specs.declared.Outcome.{Outcome}
 use Rattle.ledger.specs.declared.book.Ledger.{Ledger}
-use Rattle.run.proofs.History.{no-records, run_ends, Counts, run-most}
-use Rattle.stretches.proofs.Stretches.{restRun, counts, output-fits, output-size, all-records, stretch-most, goes_on, ends-here}
-use Rattle.line.specs.Line.{lineBytes, refusedText}
+use Rattle.run.proofs.History.{no_records, run_ends, Counts, run_most}
+use Rattle.stretches.proofs.Stretches.{rest_run, counts, output_fits, output_size, all_records, stretch_most, goes_on, ends_here}
+use Rattle.line.specs.Line.{line_bytes, refused_text}
 use Rattle.line.specs.Writing.{Writes}
-use Rattle.lines.specs.Listing.{lines_of, endText, runText, listingOf, mostLines, room_for, listed_of, text_of, LendableText}
-use Rattle.lines.specs.Outputs.{outputLines, endRoom, Lists}
+use Rattle.lines.specs.Listing.{lines_of, end_text, run_text, listing_of, most_lines, room_for, listed_of, text_of, LendableText}
+use Rattle.lines.specs.Outputs.{output_lines, end_room, Lists}
 use Rattle.lines.specs.declared.Listed.{Listed}
-use Rattle.lines.proofs.Lines.{lines-say, text-join}
+use Rattle.lines.proofs.Lines.{lines_say, text_join}
 
 -- So many lines are no more than there can be.
-lines-within : (lines records : ℕ) → lines ≤ records → lines ≤ mostRecords + 1 → lines ≤ mostLines records
-unfolding mostLines
-lines-within lines records h k = by_size (dec_le records (mostRecords + 1))
+lines_within : (lines records : ℕ) → lines ≤ records → lines ≤ most_records + 1 → lines ≤ most_lines records
+unfolding most_lines
+lines_within lines records h k = by_size (dec_le records (most_records + 1))
   where
-    by_size : Dec (records ≤ mostRecords + 1) → lines ≤ mostLines records
-    by_size (yes few) = simp (le-leb records (mostRecords + 1) few) h
-    by_size (no many) = simp (lt-leb records (mostRecords + 1) (omega arith)) k
+    by_size : Dec (records ≤ most_records + 1) → lines ≤ most_lines records
+    by_size (yes few) = simp (le-leb records (most_records + 1) few) h
+    by_size (no many) = simp (lt-leb records (most_records + 1) (omega arith)) k
 
 -- A text that is written from a place on stands before what was past its end.
 module _ {text text' line : List ℕ} {len end : ℕ} (w : Writes text len line text' end) (fits : len + length line ≤ length text) where
@@ -43,11 +43,11 @@ module _ {text text' line : List ℕ} {len end : ℕ} (w : Writes text len line 
   joined_length : length (take len text ++ line) ≡ end
   joined_length = simp length-append (omega (arith, length-take-le len text (omega arith), w.ends))
 
-  line-stands : take end text' ≡ take len text ++ line
-  line-stands = ap (take end) joined ∙ take_at (take len text ++ line) (drop end text) end joined_length
+  line_stands : take end text' ≡ take len text ++ line
+  line_stands = ap (take end) joined ∙ take_at (take len text ++ line) (drop end text) end joined_length
 
-  past-line : (text₀ : List ℕ) → drop len text ≡ drop len text₀ → drop end text' ≡ drop end text₀
-  past-line text₀ same =
+  past_line : (text₀ : List ℕ) → drop len text ≡ drop len text₀ → drop end text' ≡ drop end text₀
+  past_line text₀ same =
       ap (drop end) joined ∙ drop_at (take len text ++ line) (drop end text) end joined_length
       ∙ rw (w.ends, ← drop-drop (length line) len text, ← drop-drop (length line) len text₀) (ap (drop (length line)) same)
 
@@ -55,44 +55,44 @@ module _ {text text' line : List ℕ} {len end : ℕ} (w : Writes text len line 
 abbrev pub Answers : (file text₀ : List ℕ) → Listed → List ℕ → Type 0
 Answers file text₀ listed text = (listed ≡ listed_of file (length text₀)) × ((text ≡ text_of file text₀) × LendableText listed.length text)
 
-pub text-too-short : (file text : List ℕ) → length text < room_for file → Answers file text (record { length = 0; refusal = 2 }) text
+pub text_too_short : (file text : List ℕ) → length text < room_for file → Answers file text (record { length = 0; refusal = 2 }) text
 unfolding listed_of text_of
-text-too-short file text less =
+text_too_short file text less =
     let none = lt-leb (room_for file) (length text) less in (simp none, (simp none, (omega arith, refl)))
 
-pub whole-text : (file text₀ : List ℕ) {text : List ℕ} {len : ℕ} → room_for file ≤ length text₀ → Lists file text₀ text len
+pub whole_text : (file text₀ : List ℕ) {text : List ℕ} {len : ℕ} → room_for file ≤ length text₀ → Lists file text₀ text len
     → Answers file text₀ (record { length = len; refusal = 0 }) text
 unfolding listed_of text_of
-whole-text file text₀ {text} {len} enough lists =
+whole_text file text₀ {text} {len} enough lists =
     let size = length-take-le len text lists.within in
-    let n : length (listingOf file) ≡ len = ap length lists.whole ∙ size in
+    let n : length (listing_of file) ≡ len = ap length lists.whole ∙ size in
     let some = le-leb (room_for file) (length text₀) enough in (
       simp some (rw n),
       (simp some (rw (n, lists.whole, ← lists.past) (sym (take-append-drop len text))), (lists.within, sym size)),
     )
 
 -- What is left of the listing: the line of a refusal, and without one the text of the run from here on.
-unfoldable pub restText : (refusal : ℕ) (l : Ledger) (left : List ℕ) → List ℕ
-restText refusal l left = cond (eqb refusal 0) (runText (l.n + 1) (restRun l left)) (refusedText refusal (l.n + 1))
+unfoldable pub rest_text : (refusal : ℕ) (l : Ledger) (left : List ℕ) → List ℕ
+rest_text refusal l left = cond (eqb refusal 0) (run_text (l.n + 1) (rest_run l left)) (refused_text refusal (l.n + 1))
 
 -- What stands in the text is the listing so far, and there is room for every line that can follow.
 pub record MidListing (file text₀ text : List ℕ) (l : Ledger) (at len refusal : ℕ) : Type 0 where
-  pub few : l.n ≤ mostRecords
-  pub in-file : at ≤ length file
-  pub room : (k : ℕ) → k ≤ length (recordsOf (drop at file)) → l.n + k ≤ mostRecords + 1 → len + lineBytes * k ≤ length text
-  pub end-room : len + endRoom refusal ≤ length text
+  pub few : l.n ≤ most_records
+  pub in_file : at ≤ length file
+  pub room : (k : ℕ) → k ≤ length (records_of (drop at file)) → l.n + k ≤ most_records + 1 → len + line_bytes * k ≤ length text
+  pub end_room_lem : len + end_room refusal ≤ length text
   pub as_long : length text ≡ length text₀
   pub untouched : drop len text ≡ drop len text₀
-  pub so_far : listingOf file ≡ take len text ++ restText refusal l (drop at file)
+  pub so_far : listing_of file ≡ take len text ++ rest_text refusal l (drop at file)
 
-pub listing-starts : (file text : List ℕ) → room_for file ≤ length text → MidListing file text text fresh 0 0 0
-unfolding listingOf wholeRun fresh restText endRoom room_for
-listing-starts file text enough =
+pub listing_starts : (file text : List ℕ) → room_for file ≤ length text → MidListing file text text fresh 0 0 0
+unfolding listing_of whole_run fresh rest_text end_room room_for
+listing_starts file text enough =
     record {
       few = omega arith;
-      in-file = omega arith;
-      room = λ k h₁ h₂. omega (arith, lines-within k (length (recordsOf file)) h₁ (omega arith));
-      end-room = omega arith;
+      in_file = omega arith;
+      room = λ k h₁ h₂. omega (arith, lines_within k (length (records_of file)) h₁ (omega arith));
+      end_room_lem = omega arith;
       as_long = refl;
       untouched = refl;
       so_far = refl;
@@ -100,24 +100,24 @@ listing-starts file text enough =
 
 module _ {file text₀ text : List ℕ} {l : Ledger} {at len refusal : ℕ} (h : MidListing file text₀ text l at len refusal) where
   -- where no stretch follows, what is left is the line of a refusal, or nothing
-  rest-ends : (refusal ≡ 0 → length file ≤ at) → restText refusal l (drop at file) ≡ endText refusal (l.n + 1)
-  unfolding restText runText lines_of endText
-  rest-ends last = by-refusal (ℕ_discrete refusal 0)
+  rest_ends : (refusal ≡ 0 → length file ≤ at) → rest_text refusal l (drop at file) ≡ end_text refusal (l.n + 1)
+  unfolding rest_text run_text lines_of end_text
+  rest_ends last = by_refusal (ℕ_discrete refusal 0)
     where
-      by-refusal : Dec (refusal ≡ 0) → restText refusal l (drop at file) ≡ endText refusal (l.n + 1)
-      by-refusal (yes z) =
-          let gone : recordsOf (drop at file) ≡ [] = no-records (drop at file) (simp length-drop (omega (arith, last z))) in
+      by_refusal : Dec (refusal ≡ 0) → rest_text refusal l (drop at file) ≡ end_text refusal (l.n + 1)
+      by_refusal (yes z) =
+          let gone : records_of (drop at file) ≡ [] = no_records (drop at file) (simp length-drop (omega (arith, last z))) in
           simp (eq-eqb refusal 0 z) (rw (gone, run_ends))
-      by-refusal (no z) = simp (ne_eqb refusal 0 z)
+      by_refusal (no z) = simp (ne_eqb refusal 0 z)
 
-  pub listing-ends : (refusal ≡ 0 → length file ≤ at) → {text' : List ℕ} {end : ℕ} → Writes text len (endText refusal (l.n + 1)) text' end
-      → end ≤ len + endRoom refusal → Lists file text₀ text' end
-  listing-ends last w short =
-      let fits : len + length (endText refusal (l.n + 1)) ≤ length text = omega (arith, h.end-room, w.ends) in
+  pub listing_ends : (refusal ≡ 0 → length file ≤ at) → {text' : List ℕ} {end : ℕ} → Writes text len (end_text refusal (l.n + 1)) text' end
+      → end ≤ len + end_room refusal → Lists file text₀ text' end
+  listing_ends last w short =
+      let fits : len + length (end_text refusal (l.n + 1)) ≤ length text = omega (arith, h.end_room_lem, w.ends) in
       record {
-        within = omega (arith, h.end-room, w.as_many);
-        whole = h.so_far ∙ rw (rest-ends last) (sym (line-stands w fits));
-        past = past-line w fits text₀ h.untouched;
+        within = omega (arith, h.end_room_lem, w.as_many);
+        whole = h.so_far ∙ rw (rest_ends last) (sym (line_stands w fits));
+        past = past_line w fits text₀ h.untouched;
       }
 
 -- A stretch from where no refusal is.
@@ -126,81 +126,81 @@ module _ {file text₀ text : List ℕ} {l : Ledger} {at len : ℕ} (h : MidList
   left = drop at file
 
   abbrev ran : Run
-  ran = stretchRun l left
+  ran = stretch_run l left
 
-  after-it : Counts l (recordsOf (take stretchBytes left)) ran
-  after-it = counts l left h.few
+  after_it : Counts l (records_of (take stretch_bytes left)) ran
+  after_it = counts l left h.few
 
   -- the lines of the stretch fit, and the line of a refusal behind them
-  stretch-fits : len + lineBytes * length ran.accepted ≤ length text
-  stretch-fits = h.room (length ran.accepted) (stretch-most l left h.few) (omega (arith, after-it.n, after-it.few))
+  stretch_fits : len + line_bytes * length ran.accepted ≤ length text
+  stretch_fits = h.room (length ran.accepted) (stretch_most l left h.few) (omega (arith, after_it.n, after_it.few))
 
-  refusal-fits : (mid : ℕ) → mid ≤ len + lineBytes * length ran.accepted → mid + endRoom ran.refusal ≤ length text
-  unfolding endRoom
-  refusal-fits mid short = by-refusal (ℕ_discrete ran.refusal 0)
+  refusal_fits : (mid : ℕ) → mid ≤ len + line_bytes * length ran.accepted → mid + end_room ran.refusal ≤ length text
+  unfolding end_room
+  refusal_fits mid short = by_refusal (ℕ_discrete ran.refusal 0)
     where
-      by-refusal : Dec (ran.refusal ≡ 0) → mid + endRoom ran.refusal ≤ length text
-      by-refusal (yes z) = simp (eq-eqb ran.refusal 0 z) (omega (arith, stretch-fits))
-      by-refusal (no z) =
+      by_refusal : Dec (ran.refusal ≡ 0) → mid + end_room ran.refusal ≤ length text
+      by_refusal (yes z) = simp (eq-eqb ran.refusal 0 z) (omega (arith, stretch_fits))
+      by_refusal (no z) =
           simp (ne_eqb ran.refusal 0 z)
-          (omega (arith, h.room (length ran.accepted + 1) (omega (arith, all-records l left h.few, after-it.fewer z)) (omega (arith, after-it.n, after-it.few))))
+          (omega (arith, h.room (length ran.accepted + 1) (omega (arith, all_records l left h.few, after_it.fewer z)) (omega (arith, after_it.n, after_it.few))))
 
-  room-on : (mid : ℕ) → mid ≤ len + lineBytes * length ran.accepted
-      → (k : ℕ) → k ≤ length (recordsOf (drop stretchBytes left)) → ran.ledger.n + k ≤ mostRecords + 1 → mid + lineBytes * k ≤ length text
-  room-on mid short k h₁ h₂ =
-      omega (arith, h.room (length ran.accepted + k) (omega (arith, all-records l left h.few, run-most l (recordsOf (take stretchBytes left)) ran after-it)) (omega (arith, after-it.n)))
+  room_on : (mid : ℕ) → mid ≤ len + line_bytes * length ran.accepted
+      → (k : ℕ) → k ≤ length (records_of (drop stretch_bytes left)) → ran.ledger.n + k ≤ most_records + 1 → mid + line_bytes * k ≤ length text
+  room_on mid short k h₁ h₂ =
+      omega (arith, h.room (length ran.accepted + k) (omega (arith, all_records l left h.few, run_most l (records_of (take stretch_bytes left)) ran after_it)) (omega (arith, after_it.n)))
 
   -- what the listing has behind the lines of the stretch
-  rest-on : restText 0 l left ≡ lines_of ran.accepted ++ restText ran.refusal ran.ledger (drop stretchBytes left)
-  unfolding restText runText endText
-  rest-on = by-refusal (ℕ_discrete ran.refusal 0)
+  rest_on : rest_text 0 l left ≡ lines_of ran.accepted ++ rest_text ran.refusal ran.ledger (drop stretch_bytes left)
+  unfolding rest_text run_text end_text
+  rest_on = by_refusal (ℕ_discrete ran.refusal 0)
     where
       place : l.n + 1 + length ran.accepted ≡ ran.ledger.n + 1
-      place = omega (arith, after-it.n)
+      place = omega (arith, after_it.n)
 
-      by-refusal : Dec (ran.refusal ≡ 0) → restText 0 l left ≡ lines_of ran.accepted ++ restText ran.refusal ran.ledger (drop stretchBytes left)
-      by-refusal (yes z) =
-          simp (eq-eqb ran.refusal 0 z) (rw (goes_on l left h.few z) (text-join (l.n + 1) ran.accepted (restRun ran.ledger (drop stretchBytes left)) ∙ rw place))
-      by-refusal (no z) = rw (ends-here l left h.few z) (simp (ne_eqb ran.refusal 0 z) (rw place))
+      by_refusal : Dec (ran.refusal ≡ 0) → rest_text 0 l left ≡ lines_of ran.accepted ++ rest_text ran.refusal ran.ledger (drop stretch_bytes left)
+      by_refusal (yes z) =
+          simp (eq-eqb ran.refusal 0 z) (rw (goes_on l left h.few z) (text_join (l.n + 1) ran.accepted (rest_run ran.ledger (drop stretch_bytes left)) ∙ rw place))
+      by_refusal (no z) = rw (ends_here l left h.few z) (simp (ne_eqb ran.refusal 0 z) (rw place))
 
   -- the output records say the lines
-  lines_are : (out : List ℕ) → outputLines (out_of ran out) (length ran.accepted) ≡ lines_of ran.accepted
+  lines_are : (out : List ℕ) → output_lines (out_of ran out) (length ran.accepted) ≡ lines_of ran.accepted
   unfolding out_of
-  lines_are out = lines-say l (recordsOf (take stretchBytes left)) stretchBytes (drop (length (outputs ran.accepted)) out)
+  lines_are out = lines_say l (records_of (take stretch_bytes left)) stretch_bytes (drop (length (outputs ran.accepted)) out)
 
   -- the lines of the stretch behind the text, and the listing stands behind the stretch
-  lines-on : {text' : List ℕ} {mid : ℕ} → Writes text len (lines_of ran.accepted) text' mid → mid ≤ len + lineBytes * length ran.accepted
-      → (at' : ℕ) → at' ≤ length file → drop at' file ≡ drop stretchBytes left → MidListing file text₀ text' ran.ledger at' mid ran.refusal
-  lines-on {text'} {mid} w short at' inside same =
-      let fits : len + length (lines_of ran.accepted) ≤ length text = omega (arith, stretch-fits, w.ends) in
+  lines_on : {text' : List ℕ} {mid : ℕ} → Writes text len (lines_of ran.accepted) text' mid → mid ≤ len + line_bytes * length ran.accepted
+      → (at' : ℕ) → at' ≤ length file → drop at' file ≡ drop stretch_bytes left → MidListing file text₀ text' ran.ledger at' mid ran.refusal
+  lines_on {text'} {mid} w short at' inside same =
+      let fits : len + length (lines_of ran.accepted) ≤ length text = omega (arith, stretch_fits, w.ends) in
       record {
-        few = after-it.few;
-        in-file = inside;
-        room = rw (w.as_many, same) (room-on mid short);
-        end-room = rw w.as_many (refusal-fits mid short);
+        few = after_it.few;
+        in_file = inside;
+        room = rw (w.as_many, same) (room_on mid short);
+        end_room_lem = rw w.as_many (refusal_fits mid short);
         as_long = w.as_many ∙ h.as_long;
-        untouched = past-line w fits text₀ h.untouched;
+        untouched = past_line w fits text₀ h.untouched;
         so_far =
             h.so_far
-            ∙ rw (rest-on, same, line-stands w fits)
-            (sym (append_assoc (take len text) (lines_of ran.accepted) (restText ran.refusal ran.ledger (drop stretchBytes left))));
+            ∙ rw (rest_on, same, line_stands w fits)
+            (sym (append_assoc (take len text) (lines_of ran.accepted) (rest_text ran.refusal ran.ledger (drop stretch_bytes left))));
       }
 
   -- What the run answers and leaves in the output; its lines are written from there.
-  module _ {o : Outcome} (out : List ℕ) {out' : List ℕ} (size : length out ≡ stretchBytes) (answered : o ≡ outcomeOf ran) (put-out : out' ≡ out_of ran out) where
+  module _ {o : Outcome} (out : List ℕ) {out' : List ℕ} (size : length out ≡ stretch_bytes) (answered : o ≡ outcome_of ran) (put_out : out' ≡ out_of ran out) where
     counted : o.accepted ≡ length ran.accepted
-    unfolding outcomeOf
+    unfolding outcome_of
     counted = ap (λ (x : Outcome). x.accepted) answered
 
-    pub output-stays : length out' ≡ stretchBytes
-    output-stays = ap length put-out ∙ output-size l left h.few out size
+    pub output_stays : length out' ≡ stretch_bytes
+    output_stays = ap length put_out ∙ output_size l left h.few out size
 
-    pub lines_fit : (recordBytes * o.accepted ≤ length out') × (len + lineBytes * o.accepted ≤ length text)
-    lines_fit = (omega (arith, output-stays, counted, output-fits l left h.few), omega (arith, counted, stretch-fits))
+    pub lines_fit : (record_bytes * o.accepted ≤ length out') × (len + line_bytes * o.accepted ≤ length text)
+    lines_fit = (omega (arith, output_stays, counted, output_fits l left h.few), omega (arith, counted, stretch_fits))
 
-    pub stretch-on : {text' : List ℕ} {mid : ℕ} → Writes text len (outputLines out' o.accepted) text' mid → mid ≤ len + lineBytes * o.accepted
-        → (at' : ℕ) → at' ≤ length file → drop at' file ≡ drop stretchBytes left → MidListing file text₀ text' o.ledger at' mid o.refusal
-    unfolding outcomeOf
-    stretch-on w short at' inside same =
-        let said = rw (put-out, counted, lines_are out) at w in
-        rw answered (lines-on said (omega (arith, counted)) at' inside same)
+    pub stretch_on : {text' : List ℕ} {mid : ℕ} → Writes text len (output_lines out' o.accepted) text' mid → mid ≤ len + line_bytes * o.accepted
+        → (at' : ℕ) → at' ≤ length file → drop at' file ≡ drop stretch_bytes left → MidListing file text₀ text' o.ledger at' mid o.refusal
+    unfolding outcome_of
+    stretch_on w short at' inside same =
+        let said = rw (put_out, counted, lines_are out) at w in
+        rw answered (lines_on said (omega (arith, counted)) at' inside same)

@@ -4,9 +4,9 @@ mod by_stretch;
 mod writing;
 
 ghost use Rattle.std.specs.Prelude.{◌≡◌, ◌+◌, ◌≤◌, length};
-ghost use Rattle.carbon.specs.Carbon.{mostRecords};
-ghost use Rattle.run.specs.History.{recordsBegun};
-ghost use Rattle.lines.specs.Listing.{mostLines, listed_of, text_of, LendableText};
+ghost use Rattle.carbon.specs.Carbon.{most_records};
+ghost use Rattle.run.specs.History.{records_begun};
+ghost use Rattle.lines.specs.Listing.{most_lines, listed_of, text_of, LendableText};
 
 use by_stretch::write_listing;
 use ledger::Ledger;
@@ -29,7 +29,7 @@ pub struct Listed {
 
 // Answers the most lines that so many bytes of records can have.
 fn most_lines(bytes: usize) -> usize
-    ensures { (result ≡ mostLines (recordsBegun bytes)) × (result ≤ mostRecords + 1) }
+    ensures { (result ≡ most_lines (records_begun bytes)) × (result ≤ most_records + 1) }
 {
     let begun = bytes / record::BYTES
         + (bytes % record::BYTES + (record::BYTES - 1)) / record::BYTES;

@@ -1,17 +1,17 @@
 // Lines, written into a text.
 ghost use Rattle.std.specs.Prelude.{◌≡◌, ◌+◌, ◌*◌, ◌≤◌, length, take};
-ghost use Rattle.record.specs.Fields.{recordBytes};
-ghost use Rattle.line.specs.Line.{lineBytes, padded, Lendable};
+ghost use Rattle.record.specs.Fields.{record_bytes};
+ghost use Rattle.line.specs.Line.{line_bytes, padded, Lendable};
 ghost use Rattle.line.specs.Writing.{Writes};
-ghost use Rattle.lines.specs.Listing.{endText};
-ghost use Rattle.lines.specs.Outputs.{outputText, outputLines, endRoom};
+ghost use Rattle.lines.specs.Listing.{end_text};
+ghost use Rattle.lines.specs.Outputs.{output_text, output_lines, end_room};
 
 use line::Line;
 
 // Answers the line of the output record at a place.
 fn line_at(out: &[u8], at: usize) -> Line
-    requires { at + recordBytes ≤ length out.now }
-    ensures value { result ≡ padded (outputText out.now at) }
+    requires { at + record_bytes ≤ length out.now }
+    ensures value { result ≡ padded (output_text out.now at) }
     ensures lendable { Lendable result }
 {
     line::accepted(
@@ -37,9 +37,9 @@ fn put(text: &mut [u8], at: usize, line: Line) -> usize
 
 // Writes the lines of so many output records from a place on, and answers the place after them.
 pub(crate) fn put_lines(text: &mut [u8], at: usize, out: &[u8], count: u64) -> usize
-    requires { (recordBytes * count ≤ length out.now) × (at + lineBytes * count ≤ length text.old) }
-    ensures writes { Writes text.old at (outputLines out.now count) text.new result }
-    ensures upper_bound { result ≤ at + lineBytes * count }
+    requires { (record_bytes * count ≤ length out.now) × (at + line_bytes * count ≤ length text.old) }
+    ensures writes { Writes text.old at (output_lines out.now count) text.new result }
+    ensures upper_bound { result ≤ at + line_bytes * count }
 {
     let mut end = at;
     let mut i: u64 = 0;
@@ -52,9 +52,9 @@ pub(crate) fn put_lines(text: &mut [u8], at: usize, out: &[u8], count: u64) -> u
 
 // Writes the line of a refusal from a place on, none for 0, and answers the place after it.
 pub(crate) fn put_end(text: &mut [u8], at: usize, refusal: u8, place: u64) -> usize
-    requires { at + endRoom refusal ≤ length text.old }
-    ensures writes { Writes text.old at (endText refusal place) text.new result }
-    ensures upper_bound { result ≤ at + endRoom refusal }
+    requires { at + end_room refusal ≤ length text.old }
+    ensures writes { Writes text.old at (end_text refusal place) text.new result }
+    ensures upper_bound { result ≤ at + end_room refusal }
 {
     if refusal == 0 {
         return at;

@@ -1,10 +1,10 @@
 // What a call with yearly totals makes of the buffers that are lent to it, from image to image: request l of document 02. The entries for C
 // hand their buffers over to it.
 ghost use Rattle.std.specs.Prelude.{◌≡◌, length};
-ghost use Rattle.run.specs.History.{out_of, workOver};
-ghost use Rattle.calls.specs.Calls.{answered, imageThen, outThen, runImage};
-ghost use Rattle.yearly_totals.specs.Months.{totalsAfter};
-ghost use Rattle.month_calls.specs.MonthCalls.{takeMonthHere, monthTotalsHere, runMonthsHere};
+ghost use Rattle.run.specs.History.{out_of, work_over};
+ghost use Rattle.calls.specs.Calls.{answered, image_then, out_then, run_image};
+ghost use Rattle.yearly_totals.specs.Months.{totals_after};
+ghost use Rattle.month_calls.specs.MonthCalls.{take_month_here, month_totals_here, run_months_here};
 
 // Takes one monthly record: the image, the totals, the output and the answer are written, or the refusal's number comes back.
 pub fn take(
@@ -14,11 +14,11 @@ pub fn take(
     out: &mut [u8],
     answer: &mut [u8],
 ) -> u8
-    ensures value { result ≡ (takeMonthHere image.old totals.old «record».now out.old answer.old).refusal }
-    ensures image_after { image.new ≡ imageThen (takeMonthHere image.old totals.old «record».now out.old answer.old) image.old }
-    ensures totals_after { totals.new ≡ monthTotalsHere image.old totals.old «record».now out.old answer.old }
-    ensures out_after { out.new ≡ outThen (takeMonthHere image.old totals.old «record».now out.old answer.old) out.old }
-    ensures answer_after { answer.new ≡ answered (takeMonthHere image.old totals.old «record».now out.old answer.old) answer.old }
+    ensures value { result ≡ (take_month_here image.old totals.old «record».now out.old answer.old).refusal }
+    ensures image_after { image.new ≡ image_then (take_month_here image.old totals.old «record».now out.old answer.old) image.old }
+    ensures totals_after { totals.new ≡ month_totals_here image.old totals.old «record».now out.old answer.old }
+    ensures out_after { out.new ≡ out_then (take_month_here image.old totals.old «record».now out.old answer.old) out.old }
+    ensures answer_after { answer.new ≡ answered (take_month_here image.old totals.old «record».now out.old answer.old) answer.old }
 {
     let room = calls::room(out.len(), answer.len());
     let taken = yearly_totals::take_month(image::read(image), totals, record, &mut out[..room]);
@@ -39,12 +39,12 @@ pub fn run(
     accepted: &mut u64,
     work: &mut u64,
 ) -> u8
-    ensures value { result ≡ (runMonthsHere image.old totals.old records.now (length out.old)).refusal }
-    ensures image_after { image.new ≡ runImage image.old (runMonthsHere image.old totals.old records.now (length out.old)) }
-    ensures totals_after { totals.new ≡ totalsAfter totals.old (runMonthsHere image.old totals.old records.now (length out.old)).accepted }
-    ensures out_after { out.new ≡ out_of (runMonthsHere image.old totals.old records.now (length out.old)) out.old }
-    ensures accepted_after { accepted.new ≡ length (runMonthsHere image.old totals.old records.now (length out.old)).accepted }
-    ensures work_after { work.new ≡ workOver (runMonthsHere image.old totals.old records.now (length out.old)).accepted }
+    ensures value { result ≡ (run_months_here image.old totals.old records.now (length out.old)).refusal }
+    ensures image_after { image.new ≡ run_image image.old (run_months_here image.old totals.old records.now (length out.old)) }
+    ensures totals_after { totals.new ≡ totals_after totals.old (run_months_here image.old totals.old records.now (length out.old)).accepted }
+    ensures out_after { out.new ≡ out_of (run_months_here image.old totals.old records.now (length out.old)) out.old }
+    ensures accepted_after { accepted.new ≡ length (run_months_here image.old totals.old records.now (length out.old)).accepted }
+    ensures work_after { work.new ≡ work_over (run_months_here image.old totals.old records.now (length out.old)).accepted }
 {
     let end = yearly_totals::run_months(image::read(image), totals, records, out);
     *accepted = end.accepted;

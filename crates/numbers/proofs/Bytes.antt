@@ -9,21 +9,21 @@ use lib.ListN.{length, take, drop, get_or, set, length-set}
 use lib.Seq.{sets, sets-eq, get_or-set_same, get_or-set_other, get_or-take, get_or-drop, drop-cons}
 use Rattle.numbers.specs.Bytes.{number_at, bytes_of}
 
-pub number-join : (j k : ℕ) (s : List ℕ) (at : ℕ) → number_at (j + k) s at ≡ number_at j s at + 256 ^ j * number_at k s (at + j)
-number-join zero k s at = rw (zero-add k, add-zero at, pow-zero) (omega arith)
-number-join (suc j) k s at =
+pub number_join : (j k : ℕ) (s : List ℕ) (at : ℕ) → number_at (j + k) s at ≡ number_at j s at + 256 ^ j * number_at k s (at + j)
+number_join zero k s at = rw (zero-add k, add-zero at, pow-zero) (omega arith)
+number_join (suc j) k s at =
     let e : at + suc j ≡ at + 1 + j = omega arith
-    in rw (suc-add, e, pow-suc) (omega (arith, number-join j k s (at + 1)))
+    in rw (suc-add, e, pow-suc) (omega (arith, number_join j k s (at + 1)))
 
-pub bytes-length : (k x : ℕ) → length (bytes_of k x) ≡ k
-bytes-length zero x = refl
-bytes-length (suc k) x = ap suc (bytes-length k (x / 256))
+pub bytes_length : (k x : ℕ) → length (bytes_of k x) ≡ k
+bytes_length zero x = refl
+bytes_length (suc k) x = ap suc (bytes_length k (x / 256))
 
-pub sets-join : (xs ys l : List ℕ) (at : ℕ) → sets (sets l at xs) (at + length xs) ys ≡ sets l at (xs ++ ys)
-sets-join [] ys l at = rw add-zero
-sets-join (x ∷ xs) ys l at =
+pub sets_join : (xs ys l : List ℕ) (at : ℕ) → sets (sets l at xs) (at + length xs) ys ≡ sets l at (xs ++ ys)
+sets_join [] ys l at = rw add-zero
+sets_join (x ∷ xs) ys l at =
     let e : at + suc (length xs) ≡ suc at + length xs = omega arith
-    in rw e (sets-join xs ys (set l at x) (suc at))
+    in rw e (sets_join xs ys (set l at x) (suc at))
 
 -- bytes stored further on leave a byte as it is
 kept : (xs l : List ℕ) (at i : ℕ) → i < at → get_or (sets l at xs) i 0 ≡ get_or l i 0
@@ -32,16 +32,16 @@ kept (x ∷ xs) l at i h =
     let ne : i ≡ at → ⊥ = λ e. omega arith
     in kept xs (set l at x) (suc at) i (omega arith) ∙ get_or-set_other l at i x 0 ne
 
-pub read-written : (k x : ℕ) (l : List ℕ) (at : ℕ) → at + k ≤ length l → x < 256 ^ k → number_at k (sets l at (bytes_of k x)) at ≡ x
-read-written zero x l at h b = let z : x < 1 = rw pow-zero at b in omega arith
-read-written (suc k) x l at h b =
+pub read_written : (k x : ℕ) (l : List ℕ) (at : ℕ) → at + k ≤ length l → x < 256 ^ k → number_at k (sets l at (bytes_of k x)) at ≡ x
+read_written zero x l at h b = let z : x < 1 = rw pow-zero at b in omega arith
+read_written (suc k) x l at h b =
     let bs = bytes_of k (x / 256) in
     let small : x < 256 ^ k * 256 = rw pow-suc at b in
     let first : get_or (sets (set l at (x % 256)) (suc at) bs) at 0 ≡ x % 256
     = kept bs (set l at (x % 256)) (suc at) at (omega arith) ∙ get_or-set_same l at (x % 256) 0 (omega arith) in
     let room : suc at + k ≤ length (set l at (x % 256)) = rw length-set (omega arith) in
     let rest : number_at k (sets (set l at (x % 256)) (suc at) bs) (at + 1) ≡ x / 256
-    = rw add-one (read-written k (x / 256) (set l at (x % 256)) (suc at) room (omega arith)) in
+    = rw add-one (read_written k (x / 256) (set l at (x % 256)) (suc at) room (omega arith)) in
     omega arith
 
 -- The first of some bytes written, the others are those of the number's rest.
@@ -53,11 +53,11 @@ byte_more count k at x l h e =
     rw next (rw more at e)
 
 -- Two runs of bytes written from the start on, one after the other: they stand there, and what is past them stays.
-pub front-written : (A B out : List ℕ) {m r : List ℕ} → m ≡ sets out 0 A → r ≡ sets m (length A) B → length (A ++ B) ≤ length out
+pub front_written : (A B out : List ℕ) {m r : List ℕ} → m ≡ sets out 0 A → r ≡ sets m (length A) B → length (A ++ B) ≤ length out
     → r ≡ A ++ B ++ drop (length (A ++ B)) out
-front-written A B out p q h =
+front_written A B out p q h =
     let from : 0 + length A ≡ length A = zero-add (length A) in
-    q ∙ rw p (rw (← from) (sets-join A B out 0) ∙ sets-eq (A ++ B) out 0 (rw (zero-add (length (A ++ B))) h) ∙ rw (zero-add (length (A ++ B))))
+    q ∙ rw p (rw (← from) (sets_join A B out 0) ∙ sets-eq (A ++ B) out 0 (rw (zero-add (length (A ++ B))) h) ∙ rw (zero-add (length (A ++ B))))
 
 -- A number's own bytes make it again.
 number_behind : (k b : ℕ) (bytes : List ℕ) (at : ℕ) → number_at k (b ∷ bytes) (at + 1) ≡ number_at k bytes at
@@ -73,11 +73,11 @@ read_back (suc k) x h =
     omega arith
 
 -- A number behind the first bytes stands in the rest of them.
-pub number-drop : (k m j : ℕ) (bytes : List ℕ) → number_at k bytes (m + j) ≡ number_at k (drop m bytes) j
-number-drop zero m j bytes = refl
-number-drop (suc k) m j bytes =
+pub number_drop : (k m j : ℕ) (bytes : List ℕ) → number_at k bytes (m + j) ≡ number_at k (drop m bytes) j
+number_drop zero m j bytes = refl
+number_drop (suc k) m j bytes =
     let next : m + j + 1 ≡ m + (j + 1) = omega arith in
-    rw (next, number-drop k m (j + 1) bytes, get_or-drop m bytes j 0)
+    rw (next, number_drop k m (j + 1) bytes, get_or-drop m bytes j 0)
 
 -- Numbers of the same bytes are the same; so a number is that of its own bytes.
 pub number_same : (k : ℕ) (bytes other : List ℕ) (at from : ℕ) → ((i : ℕ) → i < k → get_or bytes (at + i) 0 ≡ get_or other (from + i) 0)
@@ -89,17 +89,17 @@ number_same (suc k) bytes other at from h =
     let there : (i : ℕ) → from + 1 + i ≡ from + suc i = λ i. omega arith in
     rw (first, number_same k bytes other (at + 1) (from + 1) (λ i l. rw (next i, there i) (h (suc i) (omega arith))))
 
-pub number-own : (k at : ℕ) (bytes : List ℕ) → number_at k bytes at ≡ number_at k (take k (drop at bytes)) 0
-number-own k at bytes =
+pub number_own : (k at : ℕ) (bytes : List ℕ) → number_at k bytes at ≡ number_at k (take k (drop at bytes)) 0
+number_own k at bytes =
     number_same k bytes (take k (drop at bytes)) at 0
     (λ i l. let same : 0 + i ≡ i = zero-add i in rw same (sym (get_or-take k (drop at bytes) i 0 l ∙ get_or-drop at bytes i 0)))
 
 -- The bytes of a number that is read are those that it is read from.
-pub bytes-at : (k at : ℕ) (bytes : List ℕ) → at + k ≤ length bytes → ((i : ℕ) → get_or bytes i 0 < 256)
+pub bytes_at : (k at : ℕ) (bytes : List ℕ) → at + k ≤ length bytes → ((i : ℕ) → get_or bytes i 0 < 256)
     → bytes_of k (number_at k bytes at) ≡ take k (drop at bytes)
-bytes-at zero at bytes room small = refl
-bytes-at (suc k) at bytes room small =
+bytes_at zero at bytes room small = refl
+bytes_at (suc k) at bytes room small =
     let rest = number_at k bytes (at + 1) in
     let low : (get_or bytes at 0 + 256 * rest) % 256 ≡ get_or bytes at 0 = omega (arith, small at) in
     let high : (get_or bytes at 0 + 256 * rest) / 256 ≡ rest = omega (arith, small at) in
-    rw (low, high, drop-cons bytes at 0 (omega arith), ← add-one at) (ap (λ (bs : List ℕ). get_or bytes at 0 ∷ bs) (bytes-at k (at + 1) bytes (omega arith) small))
+    rw (low, high, drop-cons bytes at 0 (omega arith), ← add-one at) (ap (λ (bs : List ℕ). get_or bytes at 0 ∷ bs) (bytes_at k (at + 1) bytes (omega arith) small))

@@ -9,48 +9,48 @@ use Rattle.numbers.specs.Eight.{sum_of}
 use Rattle.numbers.specs.Fraction.{Fraction, over, whole, ◌⊕◌, ◌⊗◌, ◌≼◌, ◌≺◌, ◌≈◌, total}
 
 -- The orders as tests.
-unfoldable pub atMost? : Fraction → Fraction → Bool
-atMost? a b = leb (a.plus * b.den + b.minus * a.den) (b.plus * a.den + a.minus * b.den)
+unfoldable pub at_most? : Fraction → Fraction → Bool
+at_most? a b = leb (a.plus * b.den + b.minus * a.den) (b.plus * a.den + a.minus * b.den)
 
 unfoldable pub below? : Fraction → Fraction → Bool
 below? a b = ltb (a.plus * b.den + b.minus * a.den) (b.plus * a.den + a.minus * b.den)
 
 module _ (a b c : Fraction) where
-  pub at-most-trans : a ≼ b → b ≼ c → a ≼ c
-  at-most-trans h k = le_of_mul-le-mul_right (omega (arith, mul-le-mul_right c.den h, mul-le-mul_right a.den k)) b.pos
+  pub at_most_trans : a ≼ b → b ≼ c → a ≼ c
+  at_most_trans h k = le_of_mul-le-mul_right (omega (arith, mul-le-mul_right c.den h, mul-le-mul_right a.den k)) b.pos
 
-  pub at-most-below : a ≼ b → b ≺ c → a ≺ c
-  at-most-below h k = lt_of_mul-lt-mul_right b.den (omega (arith, mul-le-mul_right c.den h, mul-lt-mul_of_pos_right k a.pos))
+  pub at_most_below : a ≼ b → b ≺ c → a ≺ c
+  at_most_below h k = lt_of_mul-lt-mul_right b.den (omega (arith, mul-le-mul_right c.den h, mul-lt-mul_of_pos_right k a.pos))
 
-  pub below-at-most : a ≺ b → b ≼ c → a ≺ c
-  below-at-most h k = lt_of_mul-lt-mul_right b.den (omega (arith, mul-lt-mul_of_pos_right h c.pos, mul-le-mul_right a.den k))
+  pub below_at_most : a ≺ b → b ≼ c → a ≺ c
+  below_at_most h k = lt_of_mul-lt-mul_right b.den (omega (arith, mul-lt-mul_of_pos_right h c.pos, mul-le-mul_right a.den k))
 
 -- A sum moves with what is added, and a product with what it is multiplied by.
 module _ (a b : Fraction) where
-  pub more-with : whole 0 ≼ b → a ≼ a ⊕ b
-  more-with h = omega (arith, mul-le-mul_right (a.den * a.den) h)
+  pub more_with : whole 0 ≼ b → a ≼ a ⊕ b
+  more_with h = omega (arith, mul-le-mul_right (a.den * a.den) h)
 
-  pub less-with : b ≼ whole 0 → a ⊕ b ≼ a
-  less-with h = omega (arith, mul-le-mul_right (a.den * a.den) h)
+  pub less_with : b ≼ whole 0 → a ⊕ b ≼ a
+  less_with h = omega (arith, mul-le-mul_right (a.den * a.den) h)
 
-  pub times-at-most : (n : ℕ) → a ≼ b → whole n ⊗ a ≼ whole n ⊗ b
-  times-at-most n h = omega (arith, mul-le-mul_right n h)
+  pub times_at_most : (n : ℕ) → a ≼ b → whole n ⊗ a ≼ whole n ⊗ b
+  times_at_most n h = omega (arith, mul-le-mul_right n h)
 
 -- Two terms that together are not below 0 move a sum up, and two that are not above 0 move it down.
 module _ (a b c : Fraction) where
-  pub more-with-both : whole 0 ≼ b ⊕ c → a ≼ a ⊕ b ⊕ c
-  more-with-both h = omega (arith, mul-le-mul_right (a.den * a.den) h)
+  pub more_with_both : whole 0 ≼ b ⊕ c → a ≼ a ⊕ b ⊕ c
+  more_with_both h = omega (arith, mul-le-mul_right (a.den * a.den) h)
 
-  pub less-with-both : b ⊕ c ≼ whole 0 → a ⊕ b ⊕ c ≼ a
-  less-with-both h = omega (arith, mul-le-mul_right (a.den * a.den) h)
+  pub less_with_both : b ⊕ c ≼ whole 0 → a ⊕ b ⊕ c ≼ a
+  less_with_both h = omega (arith, mul-le-mul_right (a.den * a.den) h)
 
 -- A fraction is one with all its parts k times as large.
 extended : (a b : Fraction) (k : ℕ) → a.plus ≡ b.plus * k → a.minus ≡ b.minus * k → a.den ≡ b.den * k → a ≈ b
 extended a b k p m d = rw (p, m, d) (omega arith)
 
 module _ (a b c : Fraction) where
-  pub same-trans : a ≈ b → b ≈ c → a ≈ c
-  same-trans h k =
+  pub same_trans : a ≈ b → b ≈ c → a ≈ c
+  same_trans h k =
       eq_of_mul-eq-mul_right b.den b.pos _ _ (omega (arith, ap (λ (y : ℕ). y * c.den) h, ap (λ (y : ℕ). y * a.den) k))
 
   -- a × c + b × c = (a + b) × c
@@ -60,11 +60,11 @@ module _ (a b c : Fraction) where
   pub regroup : a ⊗ (b ⊗ c) ≈ a ⊗ b ⊗ c
   regroup = omega arith
 
-  pub times-same : a ≈ b → a ⊗ c ≈ b ⊗ c
-  times-same h = omega (arith, ap (λ (y : ℕ). y * (c.plus * c.den)) h, ap (λ (y : ℕ). y * (c.minus * c.den)) h)
+  pub times_same : a ≈ b → a ⊗ c ≈ b ⊗ c
+  times_same h = omega (arith, ap (λ (y : ℕ). y * (c.plus * c.den)) h, ap (λ (y : ℕ). y * (c.minus * c.den)) h)
 
-  pub same-times : a ≈ b → c ⊗ a ≈ c ⊗ b
-  same-times h = omega (arith, times-same h)
+  pub same_times : a ≈ b → c ⊗ a ≈ c ⊗ b
+  same_times h = omega (arith, times_same h)
 
 -- A r + B s ≤ B r + A s
 crossed : (A B s r : ℕ) → A ≤ B → s ≤ r → A * r + B * s ≤ B * r + A * s
@@ -73,8 +73,8 @@ crossed A B s r h k =
     omega (arith, mul-le-mul_left (B - A) k, ap (λ (y : ℕ). y * r) e, ap (λ (y : ℕ). y * s) e)
 
 module _ (a b c : Fraction) where
-  pub times-right : whole 0 ≼ c → a ≼ b → a ⊗ c ≼ b ⊗ c
-  times-right z h =
+  pub times_right : whole 0 ≼ c → a ≼ b → a ⊗ c ≼ b ⊗ c
+  times_right z h =
       let s : c.minus ≤ c.plus = omega arith in
       omega (
         arith,
@@ -82,8 +82,8 @@ module _ (a b c : Fraction) where
             (crossed (a.plus * b.den + b.minus * a.den) (b.plus * a.den + a.minus * b.den) c.minus c.plus h s),
       )
 
-  pub times-left : whole 0 ≼ c → a ≼ b → c ⊗ a ≼ c ⊗ b
-  times-left z h = omega (arith, times-right z h)
+  pub times_left : whole 0 ≼ c → a ≼ b → c ⊗ a ≼ c ⊗ b
+  times_left z h = omega (arith, times_right z h)
 
 -- What is added to both sides changes no order.
 module _ (a b c : Fraction) where
@@ -93,43 +93,43 @@ module _ (a b c : Fraction) where
   pub add_left : a ≼ b → c ⊕ a ≼ c ⊕ b
   add_left h = omega (arith, mul-le-mul_right (c.den * c.den) h)
 
-  pub same-right : a ≈ b → a ⊕ c ≈ b ⊕ c
-  same-right h = omega (arith, ap (λ (y : ℕ). y * (c.den * c.den)) h)
+  pub same_right : a ≈ b → a ⊕ c ≈ b ⊕ c
+  same_right h = omega (arith, ap (λ (y : ℕ). y * (c.den * c.den)) h)
 
   pub same_left : a ≈ b → c ⊕ a ≈ c ⊕ b
   same_left h = omega (arith, ap (λ (y : ℕ). y * (c.den * c.den)) h)
 
 module _ (a b c d : Fraction) where
-  pub add-at-most : a ≼ b → c ≼ d → a ⊕ c ≼ b ⊕ d
-  add-at-most h k = at-most-trans (a ⊕ c) (b ⊕ c) (b ⊕ d) (add_right a b c h) (add_left c d b k)
+  pub add_at_most : a ≼ b → c ≼ d → a ⊕ c ≼ b ⊕ d
+  add_at_most h k = at_most_trans (a ⊕ c) (b ⊕ c) (b ⊕ d) (add_right a b c h) (add_left c d b k)
 
   pub add_same : a ≈ b → c ≈ d → a ⊕ c ≈ b ⊕ d
-  add_same h k = same-trans (a ⊕ c) (b ⊕ c) (b ⊕ d) (same-right a b c h) (same_left c d b k)
+  add_same h k = same_trans (a ⊕ c) (b ⊕ c) (b ⊕ d) (same_right a b c h) (same_left c d b k)
 
 -- Sums are equal where their terms are, and a factor of all terms is one of the sum.
-pub total-same : (f g : ℕ → Fraction) (n : ℕ) → ((k : ℕ) → k < n → f k ≡ g k) → total f n ≡ total g n
+pub total_same : (f g : ℕ → Fraction) (n : ℕ) → ((k : ℕ) → k < n → f k ≡ g k) → total f n ≡ total g n
 unfolding total
-total-same f g zero e = refl
-total-same f g (suc n) e = rw (total-same f g n (λ k l. e k (omega arith)), e n (omega arith))
+total_same f g zero e = refl
+total_same f g (suc n) e = rw (total_same f g n (λ k l. e k (omega arith)), e n (omega arith))
 
-pub total-alike : (f g : ℕ → Fraction) (n : ℕ) → ((k : ℕ) → k < n → f k ≈ g k) → total f n ≈ total g n
+pub total_alike : (f g : ℕ → Fraction) (n : ℕ) → ((k : ℕ) → k < n → f k ≈ g k) → total f n ≈ total g n
 unfolding total
-total-alike f g zero e = refl
-total-alike f g (suc n) e = add_same (total f n) (total g n) (f n) (g n) (total-alike f g n (λ k l. e k (omega arith))) (e n (omega arith))
+total_alike f g zero e = refl
+total_alike f g (suc n) e = add_same (total f n) (total g n) (f n) (g n) (total_alike f g n (λ k l. e k (omega arith))) (e n (omega arith))
 
-pub total-times : (f : ℕ → Fraction) (c : Fraction) (n : ℕ) → total (λ k. f k ⊗ c) n ≈ total f n ⊗ c
+pub total_times : (f : ℕ → Fraction) (c : Fraction) (n : ℕ) → total (λ k. f k ⊗ c) n ≈ total f n ⊗ c
 unfolding total
-total-times f c zero = omega arith
-total-times f c (suc n) =
-    same-trans (total (λ k. f k ⊗ c) n ⊕ f n ⊗ c) (total f n ⊗ c ⊕ f n ⊗ c) ((total f n ⊕ f n) ⊗ c)
-    (add_same (total (λ k. f k ⊗ c) n) (total f n ⊗ c) (f n ⊗ c) (f n ⊗ c) (total-times f c n) refl)
+total_times f c zero = omega arith
+total_times f c (suc n) =
+    same_trans (total (λ k. f k ⊗ c) n ⊕ f n ⊗ c) (total f n ⊗ c ⊕ f n ⊗ c) ((total f n ⊕ f n) ⊗ c)
+    (add_same (total (λ k. f k ⊗ c) n) (total f n ⊗ c) (f n ⊗ c) (f n ⊗ c) (total_times f c n) refl)
     (spread (total f n) (f n) c)
 
 -- A sum of fractions over one number is one over it.
-pub total-over : (f : ℕ → ℕ) (q : ℕ) (h : 0 < q) (n : ℕ) → total (λ k. over (f k) q h) n ≈ over (sum_of f n) q h
+pub total_over : (f : ℕ → ℕ) (q : ℕ) (h : 0 < q) (n : ℕ) → total (λ k. over (f k) q h) n ≈ over (sum_of f n) q h
 unfolding total
-total-over f q h zero = omega arith
-total-over f q h (suc n) =
-    same-trans (total (λ k. over (f k) q h) n ⊕ over (f n) q h) (over (sum_of f n) q h ⊕ over (f n) q h) (over (sum_of f n + f n) q h)
-    (add_same (total (λ k. over (f k) q h) n) (over (sum_of f n) q h) (over (f n) q h) (over (f n) q h) (total-over f q h n) refl)
+total_over f q h zero = omega arith
+total_over f q h (suc n) =
+    same_trans (total (λ k. over (f k) q h) n ⊕ over (f n) q h) (over (sum_of f n) q h ⊕ over (f n) q h) (over (sum_of f n + f n) q h)
+    (add_same (total (λ k. over (f k) q h) n) (over (sum_of f n) q h) (over (f n) q h) (over (f n) q h) (total_over f q h n) refl)
     (omega arith)

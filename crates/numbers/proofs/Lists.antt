@@ -18,9 +18,9 @@ module _ {A : Type 0} where
   added_more f (y ∷ xs) x = omega (arith, added_more f xs x)
 
   -- and that it is written where a list goes on.
-  pub write-more : (done : List A) (x d : A) (xs : List A) (i : ℕ) {now : List A} → length done ≡ i → i < length xs → now ≡ done ++ drop i xs
+  pub write_more : (done : List A) (x d : A) (xs : List A) (i : ℕ) {now : List A} → length done ≡ i → i < length xs → now ≡ done ++ drop i xs
       → set now i x ≡ (done ++ (x ∷ [])) ++ drop (i + 1) xs
-  write-more done x d xs i long room e =
+  write_more done x d xs i long room e =
       let next : suc i ≡ i + 1 = omega arith in
       rw (e, drop-cons xs i d room, next) (set_at done (get_or xs i d) (drop (i + 1) xs) x i long ∙ sym (append_snoc done x (drop (i + 1) xs)))
 
@@ -50,10 +50,10 @@ module _ {A : Type 0} (P : ℕ → A → Type 0) where
   each_both Q R f i (x ∷ xs) p q = (f i x p.0 q.0, each_both Q R f (i + 1) xs p.1 q.1)
 
 -- A number of each thing, one place after another.
-pub each-of-map : {A : Type 0} (f : A → ℕ) (done : List ℕ) (xs : List A) (rest : List ℕ) (i : ℕ) → length done ≡ i
+pub each_of_map : {A : Type 0} (f : A → ℕ) (done : List ℕ) (xs : List A) (rest : List ℕ) (i : ℕ) → length done ≡ i
     → Each (λ j x. get_or (done ++ (map f xs ++ rest)) j 0 ≡ f x) i xs
-each-of-map f done [] rest i e = tt
-each-of-map f done (x ∷ xs) rest i e = (
+each_of_map f done [] rest i e = tt
+each_of_map f done (x ∷ xs) rest i e = (
   get_or_at done (f x) (map f xs ++ rest) 0 i e,
-  rw (← append_snoc done (f x) (map f xs ++ rest)) (each-of-map f (done ++ (f x ∷ [])) xs rest (i + 1) (omega (arith, length_more done (f x), e))),
+  rw (← append_snoc done (f x) (map f xs ++ rest)) (each_of_map f (done ++ (f x ∷ [])) xs rest (i + 1) (omega (arith, length_more done (f x), e))),
 )

@@ -4,8 +4,8 @@ use native.Mathlib.Nat.{mul-le-mul}
 use native.Mathlib.Decide.{dec_le}
 use native.Mathlib.Omega.{arith}
 
-pub root-at-most : (x y : ℕ) → x * x ≤ y * y → x ≤ y
-root-at-most x y h =
+pub root_at_most : (x y : ℕ) → x * x ≤ y * y → x ≤ y
+root_at_most x y h =
     elim (dec_le x y) [
       | yes l ↦ l
       | no l ↦ let more : y + 1 ≤ x = omega arith in absurd (omega (arith, mul-le-mul more more))

@@ -15,9 +15,9 @@ sum_of f zero = 0
 sum_of f (suc k) = sum_of f k + f k
 
 -- The test holds of 0, 1, .., k − 1.
-abbrev pub everyOf : (ℕ → Bool) → ℕ → Bool
-everyOf test zero = true
-everyOf test (suc k) = everyOf test k && test k
+abbrev pub every_of : (ℕ → Bool) → ℕ → Bool
+every_of test zero = true
+every_of test (suc k) = every_of test k && test k
 
 -- All of some tests hold.
 abbrev pub all_of : List Bool → Bool

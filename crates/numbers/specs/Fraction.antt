@@ -71,4 +71,4 @@ total f (suc n) = total f n ⊕ f n
 -- The two differ by less than the bound, both ways.
 pub record WithinBound (exact : Fraction) (figure bound : ℕ) : Type 0 where
   pub exact_below : exact ≺ whole figure ⊕ whole bound
-  pub figure-below : whole figure ≺ exact ⊕ whole bound
+  pub figure_below : whole figure ≺ exact ⊕ whole bound

@@ -1,7 +1,7 @@
 // A file whose masses stand in the order of translated names, put right: every mass at its type's place, and a report of what is not
 // as it was. It serves request g of document 02, and is called by whoever has files that the old editions wrote.
 ghost use Rattle.std.specs.Prelude.{◌≡◌};
-ghost use Rattle.order.specs.Repair.{repairedOf, outLeft, reportLeft};
+ghost use Rattle.order.specs.Repair.{repaired_of, out_left, report_left};
 
 mod masses;
 mod places;
@@ -28,9 +28,9 @@ fn refuse(refusal: u8) -> Repaired
 // Rewrites a file with every mass at its type's place, and reports which masses are not as they were, a byte for each record; or
 // refuses: 20 the order does not name each type once, 21 the file is not whole records, 22 a buffer is too short.
 pub fn repair(order: &[u8], file: &[u8], out: &mut [u8], report: &mut [u8]) -> Repaired
-    ensures value { result ≡ repairedOf order.now file.now out.old report.old }
-    ensures out_after { out.new ≡ outLeft order.now file.now out.old report.old }
-    ensures report_after { report.new ≡ reportLeft order.now file.now out.old report.old }
+    ensures value { result ≡ repaired_of order.now file.now out.old report.old }
+    ensures out_after { out.new ≡ out_left order.now file.now out.old report.old }
+    ensures report_after { report.new ≡ report_left order.now file.now out.old report.old }
 {
     if !types::is_order(order) {
         return refuse(20);

@@ -4,8 +4,8 @@ ghost use Rattle.std.specs.Int.Count.{ones};
 ghost use Rattle.std.proofs.lemmas.List.Edits.{sets};
 ghost use Rattle.numbers.specs.Eight.{one, sum_of};
 ghost use Rattle.numbers.specs.Lists.{joined};
-ghost use Rattle.order.specs.Order.{eightBits};
-ghost use Rattle.order.specs.Repair.{rewritten, isOther, recordIn, numberOfRecords};
+ghost use Rattle.order.specs.Order.{eight_bits};
+ghost use Rattle.order.specs.Repair.{rewritten, is_other, record_in, number_of_records};
 
 use crate::masses::write_record;
 
@@ -18,10 +18,10 @@ fn ones_in(byte: u8) -> u64
 
 // Writes each record anew and its byte of the report, and answers how many bits of the report are set.
 pub(crate) fn rewrite(file: &[u8], places: [usize; 8], out: &mut [u8], report: &mut [u8]) -> u64
-    requires { (length file.now ≤ length out.old) × (numberOfRecords file.now ≤ length report.old) × ((t : _) → t < 8 → get_or places t 0 < 8) }
-    ensures value { result ≡ sum_of (λ q. sum_of (λ t. one (isOther (λ u. get_or places u 0) (recordIn file.now q) t)) 8) (numberOfRecords file.now) }
-    ensures out_after { out.new ≡ sets out.old 0 (joined (λ q. rewritten (λ u. get_or places u 0) (recordIn file.now q)) (numberOfRecords file.now)) }
-    ensures report_after { report.new ≡ sets report.old 0 (joined (λ q. eightBits (isOther (λ u. get_or places u 0) (recordIn file.now q)) ∷ []) (numberOfRecords file.now)) }
+    requires { (length file.now ≤ length out.old) × (number_of_records file.now ≤ length report.old) × ((t : _) → t < 8 → get_or places t 0 < 8) }
+    ensures value { result ≡ sum_of (λ q. sum_of (λ t. one (is_other (λ u. get_or places u 0) (record_in file.now q) t)) 8) (number_of_records file.now) }
+    ensures out_after { out.new ≡ sets out.old 0 (joined (λ q. rewritten (λ u. get_or places u 0) (record_in file.now q)) (number_of_records file.now)) }
+    ensures report_after { report.new ≡ sets report.old 0 (joined (λ q. eight_bits (is_other (λ u. get_or places u 0) (record_in file.now q)) ∷ []) (number_of_records file.now)) }
 {
     let count = file.len() / record::BYTES;
     let mut changed = 0u64;

@@ -1,7 +1,7 @@
 // The types that an order names, as a set in eight bits: bit t − 1 is set exactly when type t is named.
 ghost use Rattle.std.specs.Prelude.{◌≡◌, ◌+◌, eqb};
 ghost use Rattle.std.specs.Int.Bits.{bit_or};
-ghost use Rattle.order.specs.Order.{eightBits, is_order};
+ghost use Rattle.order.specs.Order.{eight_bits, is_order};
 
 // How many types there are, and the set of them all.
 const TYPES: u8 = 8;
@@ -10,7 +10,7 @@ const ALL: u8 = 255;
 
 // Answers a set with one byte's type in it; a byte that is no type adds nothing.
 fn seen_with(seen: u8, byte: u8) -> u8
-    ensures { result ≡ bit_or seen (eightBits (λ k. eqb byte (k + 1))) }
+    ensures { result ≡ bit_or seen (eight_bits (λ k. eqb byte (k + 1))) }
 {
     if byte == 0 {
         return seen;

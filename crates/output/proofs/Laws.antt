@@ -4,7 +4,7 @@ use mathlib.Core.List.{List, ◌++◌}
 use Prim.Native.Nat.{ℕ, ◌^◌, ◌<◌}
 use Rattle.numbers.specs.Bytes.{number_at}
 use Rattle.numbers.proofs.Bytes.{read_back}
-use Rattle.output.specs.Output.{outputOf}
+use Rattle.output.specs.Output.{output_of}
 use Rattle.output.specs.declared.Output.{Output}
 
 -- An output record as the library holds it: numbers of 16 and 64 bits.
@@ -22,8 +22,8 @@ pub record Says (o : Output) (bytes : List ℕ) : Type 0 where
   pub bound : number_at 8 bytes 24 ≡ o.bound
   pub stock : number_at 8 bytes 32 ≡ o.stock
 
-pub says : (o : Output) → Fits o → (rest : List ℕ) → Says o (outputOf o ++ rest)
-unfolding outputOf
+pub says : (o : Output) → Fits o → (rest : List ℕ) → Says o (output_of o ++ rest)
+unfolding output_of
 says o h rest =
     record {
       period = read_back 2 o.period h.period;

@@ -1,8 +1,8 @@
 // The output record of 48 bytes: 'One step' of document 01. The ledger writes it.
 ghost use Rattle.std.specs.Prelude.{◌≡◌, ◌≤◌, length};
 ghost use Rattle.std.proofs.lemmas.List.Edits.{sets};
-ghost use Rattle.record.specs.Fields.{recordBytes};
-ghost use Rattle.output.specs.Output.{outputHead, fiveOf, written};
+ghost use Rattle.record.specs.Fields.{record_bytes};
+ghost use Rattle.output.specs.Output.{output_head, five_of, written};
 
 // What an output record says: period, kind, climate, x0 in mg, figure and bound in grams CO2e, total R and total T in mg.
 #[derive(Drop)]
@@ -19,8 +19,8 @@ pub struct Output {
 
 // Writes the first 8 bytes: period, kind, climate and zeros.
 fn write_head(out: &mut [u8], period: u16, kind: u8, climate: u8)
-    requires { recordBytes ≤ length out.old }
-    ensures { out.new ≡ sets out.old 0 (outputHead period kind climate) }
+    requires { record_bytes ≤ length out.old }
+    ensures { out.new ≡ sets out.old 0 (output_head period kind climate) }
 {
     numbers::write_u16(out, 0, period as u64);
     numbers::write_u8(out, 2, kind);
@@ -30,8 +30,8 @@ fn write_head(out: &mut [u8], period: u16, kind: u8, climate: u8)
 
 // Writes the five numbers after them.
 fn write_five(out: &mut [u8], x0: u64, figure: u64, bound: u64, stock: u64, brought: u64)
-    requires { recordBytes ≤ length out.old }
-    ensures { out.new ≡ sets out.old 8 (fiveOf x0 figure bound stock brought) }
+    requires { record_bytes ≤ length out.old }
+    ensures { out.new ≡ sets out.old 8 (five_of x0 figure bound stock brought) }
 {
     numbers::write_u64(out, 8, x0);
     numbers::write_u64(out, 16, figure);

@@ -38,10 +38,10 @@ module _ {K : Type 0} {A R S : K → Type 0} (Learnt : (κs : K) → A κs → R
   OneAnswer = Settled (λ κs r s. r)
 
 -- A contract that is an equation settles what it says.
-pub by-equation : {K : Type 0} {A R S C : K → Type 0} {Learnt : (κs : K) → A κs → R κs → S κs → Type 0}
+pub by_equation : {K : Type 0} {A R S C : K → Type 0} {Learnt : (κs : K) → A κs → R κs → S κs → Type 0}
     {says : (κs : K) → R κs → S κs → C κs} {is : (κs : K) → A κs → C κs}
     → ((κs : K) (a : A κs) (r : R κs) (s : S κs) → Learnt κs a r s → says κs r s ≡ is κs a) → Settled Learnt says
-by-equation e κs a r r' s s' p q = e κs a r s p ∙ sym (e κs a r' s' q)
+by_equation e κs a r r' s s' p q = e κs a r s p ∙ sym (e κs a r' s' q)
 
 -- a result and a buffer, or two buffers
 abbrev pub ◌&◌ : {A B : Type 0} → A → B → A × B

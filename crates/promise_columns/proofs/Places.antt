@@ -7,36 +7,36 @@ use native.Mathlib.Omega.{arith}
 use lib.ListN.{length, get_or, drop, length-append, length-drop, length-map}
 use lib.Seq.{drop_at}
 use Rattle.numbers.specs.Lists.{Each}
-use Rattle.numbers.proofs.Lists.{each-of-map}
+use Rattle.numbers.proofs.Lists.{each_of_map}
 use Rattle.run.specs.History.{Turn}
-use Rattle.by_type.specs.Columns.{columnEntry, columnAfter, columnsAfter}
+use Rattle.by_type.specs.Columns.{column_entry, column_after, columns_after}
 
 -- What is said of each thing for each of eight places.
-pub each-place : {A : Type 0} (P : ℕ → ℕ → A → Type 0) (i : ℕ) (xs : List A) → ((t : ℕ) → t < 8 → Each (P t) i xs)
+pub each_place : {A : Type 0} (P : ℕ → ℕ → A → Type 0) (i : ℕ) (xs : List A) → ((t : ℕ) → t < 8 → Each (P t) i xs)
     → Each (λ j x. (t : ℕ) → t < 8 → P t j x) i xs
-each-place P i [] p = tt
-each-place P i (x ∷ xs) p = (λ t h. (p t h).0, each-place P (i + 1) xs (λ t h. (p t h).1))
+each_place P i [] p = tt
+each_place P i (x ∷ xs) p = (λ t h. (p t h).0, each_place P (i + 1) xs (λ t h. (p t h).1))
 
 module _ (c : ℕ) (turns : List Turn) (column : List ℕ) where
-  pub entries-there : Each (λ j turn. get_or (columnAfter c turns column) j 0 ≡ columnEntry c turn) 0 turns
-  unfolding columnAfter
-  entries-there = each-of-map (columnEntry c) [] turns (drop (length turns) column) 0 refl
+  pub entries_there : Each (λ j turn. get_or (column_after c turns column) j 0 ≡ column_entry c turn) 0 turns
+  unfolding column_after
+  entries_there = each_of_map (column_entry c) [] turns (drop (length turns) column) 0 refl
 
-  pub past-there : drop (length turns) (columnAfter c turns column) ≡ drop (length turns) column
-  unfolding columnAfter
-  past-there = drop_at (map (columnEntry c) turns) (drop (length turns) column) (length turns) (length-map turns (columnEntry c))
+  pub past_there : drop (length turns) (column_after c turns column) ≡ drop (length turns) column
+  unfolding column_after
+  past_there = drop_at (map (column_entry c) turns) (drop (length turns) column) (length turns) (length-map turns (column_entry c))
 
-  pub length-there : length turns ≤ length column → length (columnAfter c turns column) ≡ length column
-  unfolding columnAfter
-  length-there h =
-      length-append (map (columnEntry c) turns) (drop (length turns) column)
-      ∙ omega (arith, length-map turns (columnEntry c), length-drop (length turns) column, h)
+  pub length_there : length turns ≤ length column → length (column_after c turns column) ≡ length column
+  unfolding column_after
+  length_there h =
+      length-append (map (column_entry c) turns) (drop (length turns) column)
+      ∙ omega (arith, length-map turns (column_entry c), length-drop (length turns) column, h)
 
 -- The columns after a run, by their numbers.
-pub column-there : (c : ℕ) (turns : List Turn) (columns : List (List ℕ)) (k : ℕ) → k < length columns
-    → get_or (columnsAfter c turns columns) k [] ≡ columnAfter (c + k) turns (get_or columns k [])
-column-there c turns [] k h = absurd (omega arith)
-column-there c turns (column ∷ rest) zero h = rw (add-zero c)
-column-there c turns (column ∷ rest) (suc k) h =
+pub column_there : (c : ℕ) (turns : List Turn) (columns : List (List ℕ)) (k : ℕ) → k < length columns
+    → get_or (columns_after c turns columns) k [] ≡ column_after (c + k) turns (get_or columns k [])
+column_there c turns [] k h = absurd (omega arith)
+column_there c turns (column ∷ rest) zero h = rw (add-zero c)
+column_there c turns (column ∷ rest) (suc k) h =
     let on : c + 1 + k ≡ c + suc k = omega arith in
-    rw (← on) (column-there (c + 1) turns rest k (omega arith))
+    rw (← on) (column_there (c + 1) turns rest k (omega arith))

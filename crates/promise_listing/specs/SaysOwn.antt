@@ -1,14 +1,14 @@
 -- Document 01, 'One step', the output record, and 'Worked figures', the listing's line: what both say first.
 use Rattle.std.specs.Prelude.{◌≡◌, List, ℕ}
-use Rattle.record.specs.Fields.{periodOf, kind_of, climateOf}
-use Rattle.ledger.specs.Take.{totalStock, outputFields}
+use Rattle.record.specs.Fields.{period_of, kind_of, climate_of}
+use Rattle.ledger.specs.Take.{total_stock, output_fields}
 use Rattle.ledger.specs.declared.answer.Answer.{Answer}
-use Rattle.line.specs.Line.{acceptedText}
-use Rattle.lines.specs.Listing.{answerText}
+use Rattle.line.specs.Line.{accepted_text}
+use Rattle.lines.specs.Listing.{answer_text}
 
 -- What an accepted record's output record and line say first is the record's own.
 pub record SaysOwn (bytes : List ℕ) (a : Answer) : Type 0 where
-  pub own-period : (outputFields a).period ≡ periodOf bytes
-  pub own-kind : (outputFields a).kind ≡ kind_of bytes
-  pub own-climate : (outputFields a).climate ≡ climateOf bytes
-  pub own_line : answerText a ≡ acceptedText (periodOf bytes) a.x0 a.figure a.bound (totalStock a.ledger)
+  pub own_period : (output_fields a).period ≡ period_of bytes
+  pub own_kind : (output_fields a).kind ≡ kind_of bytes
+  pub own_climate : (output_fields a).climate ≡ climate_of bytes
+  pub own_line : answer_text a ≡ accepted_text (period_of bytes) a.x0 a.figure a.bound (total_stock a.ledger)

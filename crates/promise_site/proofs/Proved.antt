@@ -2,5 +2,5 @@
 use Rattle.promise_site.specs.Promise.{SitePromise}
 use Rattle.promise_site.proofs.Site.{kept_site}
 
-pub site-promise : SitePromise
-site-promise = record { kept_site = kept_site }
+pub site_promise : SitePromise
+site_promise = record { kept_site = kept_site }

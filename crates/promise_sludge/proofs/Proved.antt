@@ -1,16 +1,16 @@
 -- What request f claims, proved.
 use Rattle.promise_sludge.specs.Promise.{SludgePromise}
-use Rattle.promise_sludge.proofs.Sludge.{default-kept, domestic-measured, industrial-measured, over-100, dry-unseen, dry-free, sound-by, still-sound}
+use Rattle.promise_sludge.proofs.Sludge.{default_kept, domestic_measured, industrial_measured, over_100, dry_unseen, dry_free, sound_by_lem, still_sound}
 
-pub sludge-promise : SludgePromise
-sludge-promise =
+pub sludge_promise : SludgePromise
+sludge_promise =
     record {
-      default-kept = default-kept;
-      domestic-measured = domestic-measured;
-      industrial-measured = industrial-measured;
-      over-100 = over-100;
-      dry-unseen = λ l one other room alike. dry-unseen one other alike l room;
-      dry-free = λ l one other room alike. dry-free one other alike l room;
-      sound-by = sound-by;
-      still-sound = still-sound;
+      default_kept = default_kept;
+      domestic_measured = domestic_measured;
+      industrial_measured = industrial_measured;
+      over_100 = over_100;
+      dry_unseen = λ l one other room alike. dry_unseen one other alike l room;
+      dry_free = λ l one other room alike. dry_free one other alike l room;
+      sound_by_lem = sound_by_lem;
+      still_sound = still_sound;
     }

@@ -3,58 +3,58 @@ use mathlib.Core.Path.{◌≡◌, refl}
 use mathlib.Core.List.{List, [], ◌∷◌, ◌++◌, append-nil, append_assoc}
 use Prim.Native.Nat.{ℕ}
 use native.Mathlib.Decide.{ℕ_discrete}
-use Rattle.numbers.proofs.Fault.{inserted-clear}
-use Rattle.waste.specs.Kind.{isMonthly}
-use Rattle.record.specs.Fields.{recordBytes, kind_of}
-use Rattle.refusal.specs.Refusal.{faultsOf}
+use Rattle.numbers.proofs.Fault.{inserted_clear}
+use Rattle.waste.specs.Kind.{is_monthly}
+use Rattle.record.specs.Fields.{record_bytes, kind_of}
+use Rattle.refusal.specs.Refusal.{faults_of}
 use Rattle.ledger.specs.Step.{fresh}
-use Rattle.ledger.specs.Refusal.{sound, refusalOf}
-use Rattle.ledger.specs.Take.{acceptedOf}
+use Rattle.ledger.specs.Refusal.{sound, refusal_of}
+use Rattle.ledger.specs.Take.{accepted_of}
 use Rattle.ledger.specs.declared.book.Ledger.{Ledger}
-use Rattle.run.specs.History.{Turn, ledgerAfter, leading, recordsOf}
-use Rattle.run.proofs.History.{acceptedTurn}
-use Rattle.tunisia.specs.Years.{refusalByYear, turnsByYear, acceptedYears}
-use Rattle.tunisia.proofs.ByYear.{year-goes-on, year-stops}
+use Rattle.run.specs.History.{Turn, ledger_after, leading, records_of}
+use Rattle.run.proofs.History.{accepted_turn}
+use Rattle.tunisia.specs.Years.{refusal_by_year, turns_by_year, accepted_years}
+use Rattle.tunisia.proofs.ByYear.{year_goes_on, year_stops}
 use Rattle.promise_three.specs.Offering.{Offering}
-use Rattle.promise_three.proofs.OneByOne.{OneByOne, none_yet, one_more, withOne, freshOffering}
-use Rattle.promise_tunisia.specs.Reported.{yearLedger}
+use Rattle.promise_three.proofs.OneByOne.{OneByOne, none_yet, one_more, with_one, fresh_offering}
+use Rattle.promise_tunisia.specs.Reported.{year_ledger}
 
 -- A record that this mode accepts is accepted in a run with room.
-pub taken-in-a-run : (l : Ledger) (bytes : List ℕ) → refusalByYear l bytes ≡ 0 → refusalOf l bytes recordBytes ≡ 0
-unfolding refusalByYear refusalOf faultsOf
-taken-in-a-run l bytes e =
-    (inserted-clear 6 23 (isMonthly (kind_of bytes)) (faultsOf (sound l) l.n l.kind l.climate l.year bytes recordBytes) refl e).0
+pub taken_in_a_run : (l : Ledger) (bytes : List ℕ) → refusal_by_year l bytes ≡ 0 → refusal_of l bytes record_bytes ≡ 0
+unfolding refusal_by_year refusal_of faults_of
+taken_in_a_run l bytes e =
+    (inserted_clear 6 23 (is_monthly (kind_of bytes)) (faults_of (sound l) l.n l.kind l.climate l.year bytes record_bytes) refl e).0
 
 -- no record, no year
-no-years : (l : Ledger) → leading (turnsByYear l []) ≡ []
-unfolding turnsByYear leading
-no-years l = refl
+no_years : (l : Ledger) → leading (turns_by_year l []) ≡ []
+unfolding turns_by_year leading
+no_years l = refl
 
 -- some accepted records, and more
 abbrev onward : Offering → List Turn → Offering
-onward o more = record { ledger = ledgerAfter o.ledger more; accepted = o.accepted ++ more }
+onward o more = record { ledger = ledger_after o.ledger more; accepted = o.accepted ++ more }
 
 none_more : (o : Offering) → OneByOne o → OneByOne (onward o [])
-unfolding ledgerAfter
+unfolding ledger_after
 none_more o r = rw append-nil r
 
-with-one : (o : Offering) (bytes : List ℕ) (more : List Turn) → OneByOne (onward (withOne o bytes) more) → OneByOne (onward o (acceptedTurn o.ledger bytes ∷ more))
-unfolding ledgerAfter acceptedOf
-with-one o bytes more r = rw append_assoc at r
+with_one_lem : (o : Offering) (bytes : List ℕ) (more : List Turn) → OneByOne (onward (with_one o bytes) more) → OneByOne (onward o (accepted_turn o.ledger bytes ∷ more))
+unfolding ledger_after accepted_of
+with_one_lem o bytes more r = rw append_assoc at r
 
-goes-by-year : (xs : List (List ℕ)) (o : Offering) → OneByOne o → OneByOne (onward o (leading (turnsByYear o.ledger xs)))
-unfolding acceptedOf
-goes-by-year [] o r = rw (no-years o.ledger) (none_more o r)
-goes-by-year (bytes ∷ rest) o r =
-    elim (ℕ_discrete (refusalByYear o.ledger bytes) 0) [
-      | yes e ↦ rw (year-goes-on o.ledger bytes rest e).0
-          (with-one o bytes (leading (turnsByYear (withOne o bytes).ledger rest)) (goes-by-year rest (withOne o bytes) (one_more o bytes recordBytes r (taken-in-a-run o.ledger bytes e))))
-      | no e ↦ rw (year-stops o.ledger bytes rest e).0 (none_more o r)
+goes_by_year : (xs : List (List ℕ)) (o : Offering) → OneByOne o → OneByOne (onward o (leading (turns_by_year o.ledger xs)))
+unfolding accepted_of
+goes_by_year [] o r = rw (no_years o.ledger) (none_more o r)
+goes_by_year (bytes ∷ rest) o r =
+    elim (ℕ_discrete (refusal_by_year o.ledger bytes) 0) [
+      | yes e ↦ rw (year_goes_on o.ledger bytes rest e).0
+          (with_one_lem o bytes (leading (turns_by_year (with_one o bytes).ledger rest)) (goes_by_year rest (with_one o bytes) (one_more o bytes record_bytes r (taken_in_a_run o.ledger bytes e))))
+      | no e ↦ rw (year_stops o.ledger bytes rest e).0 (none_more o r)
     ]
 
-abbrev pub yearOffering : (file : List ℕ) → Offering
-yearOffering file = record { ledger = yearLedger file; accepted = acceptedYears file }
+abbrev pub year_offering : (file : List ℕ) → Offering
+year_offering file = record { ledger = year_ledger file; accepted = accepted_years file }
 
-pub years-one-by-one : (file : List ℕ) → OneByOne (yearOffering file)
-unfolding acceptedYears
-years-one-by-one file = goes-by-year (recordsOf file) freshOffering none_yet
+pub years_one_by_one : (file : List ℕ) → OneByOne (year_offering file)
+unfolding accepted_years
+years_one_by_one file = goes_by_year (records_of file) fresh_offering none_yet

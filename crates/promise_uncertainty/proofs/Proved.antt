@@ -1,24 +1,24 @@
 -- What request d claims, proved.
 use Rattle.promise_uncertainty.specs.Promise.{UncertaintyPromise}
-use Rattle.promise_uncertainty.proofs.Equation.{phi-is, V-is}
-use Rattle.promise_uncertainty.proofs.Uncertainties.{factor-where, factor-well, factor-one, factor-18, codes-where, codes-18, codes-19, codes-table, codes-chosen, codes-well, factor-falls, codes-fall, factor-86}
+use Rattle.promise_uncertainty.proofs.Equation.{phi_is, v_is}
+use Rattle.promise_uncertainty.proofs.Uncertainties.{factor_where, factor_well, factor_one, factor_18, codes_where, codes_18, codes_19, codes_table, codes_chosen, codes_well, factor_falls, codes_fall, factor_86}
 
-pub uncertainty-promise : UncertaintyPromise
-uncertainty-promise =
+pub uncertainty_promise : UncertaintyPromise
+uncertainty_promise =
     record {
-      phi-is = phi-is;
-      V-is = V-is;
-      factor-where = factor-where;
-      factor-well = factor-well;
-      factor-one = factor-one;
-      codes-where = codes-where;
-      codes-table = codes-table;
-      codes-chosen = codes-chosen;
-      codes-well = codes-well;
-      factor-18 = factor-18;
-      codes-18 = codes-18;
-      codes-19 = codes-19;
-      factor-falls = factor-falls;
-      codes-fall = codes-fall;
-      factor-86 = factor-86;
+      phi_is = phi_is;
+      v_is = v_is;
+      factor_where = factor_where;
+      factor_well = factor_well;
+      factor_one = factor_one;
+      codes_where = codes_where;
+      codes_table = codes_table;
+      codes_chosen = codes_chosen;
+      codes_well = codes_well;
+      factor_18 = factor_18;
+      codes_18 = codes_18;
+      codes_19 = codes_19;
+      factor_falls = factor_falls;
+      codes_fall = codes_fall;
+      factor_86 = factor_86;
     }

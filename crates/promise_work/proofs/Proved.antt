@@ -2,16 +2,16 @@
 use native.Mathlib.Omega.{arith}
 use borrow.Author.Tests.{eqb-true}
 use Rattle.promise_work.specs.Promise.{WorkPromise}
-use Rattle.promise_work.proofs.Work.{work-counted, seven-a-record, most-in-a-run, type-6-none, by-masses, masses-decide, by-releases}
+use Rattle.promise_work.proofs.Work.{work_counted, seven_a_record, most_in_a_run, type_6_none, by_masses, masses_decide, by_releases}
 
-pub work-promise : WorkPromise
-work-promise =
+pub work_promise : WorkPromise
+work_promise =
     record {
-      work-counted = work-counted;
-      seven-a-record = λ l file out i b. omega (arith, seven-a-record l file out i b);
-      most-in-a-run = λ l file out. omega (arith, most-in-a-run l file out);
-      inert-none = λ l bytes out t e is. type-6-none l bytes out e t (omega (arith, eqb-true));
-      by-masses = by-masses;
-      masses-decide = masses-decide;
-      by-releases = by-releases;
+      work_counted = work_counted;
+      seven_a_record = λ l file out i b. omega (arith, seven_a_record l file out i b);
+      most_in_a_run = λ l file out. omega (arith, most_in_a_run l file out);
+      inert_none = λ l bytes out t e is. type_6_none l bytes out e t (omega (arith, eqb-true));
+      by_masses = by_masses;
+      masses_decide = masses_decide;
+      by_releases = by_releases;
     }

@@ -2,5 +2,5 @@
 use Rattle.promise_worked.specs.Promise.{WorkedPromise}
 use Rattle.promise_worked.proofs.Worked.{worked}
 
-pub worked-promise : WorkedPromise
-worked-promise = record { worked-figures = worked }
+pub worked_promise : WorkedPromise
+worked_promise = record { worked_figures = worked }

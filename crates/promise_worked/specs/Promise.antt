@@ -5,4 +5,4 @@ use Rattle.promise_worked.specs.Worked.{rows, holds}
 
 pub record WorkedPromise : Type 0 where
   -- 'P1 to P10 are one table proved with a single statement from the definitions'
-  pub worked-figures : all_of (map holds rows) ≡ true
+  pub worked_figures : all_of (map holds rows) ≡ true

@@ -18,32 +18,32 @@ use Rattle.promise_totals.specs.Promise.{TotalsPromise}
 
 pub record Promises : Type 0 where
   -- Demand 3, and request b of document 02: released carbon.
-  pub carbon-kept : ThreePromise
+  pub carbon_kept : ThreePromise
   -- Document 01, 'What the contracts have to decide': a whole run.
-  pub whole-runs : RunPromise
+  pub whole_runs : RunPromise
   -- Document 01, 'One step' and 'Worked figures': output records and the listing.
   pub listings : ListingPromise
   -- Demand 3, over the entries that C calls: a site kept from call to call.
-  pub kept-sites : SitePromise
+  pub kept_sites : SitePromise
   -- Document 01, 'Worked figures': P1 to P10.
-  pub worked-table : WorkedPromise
+  pub worked_table : WorkedPromise
   -- Document 02, request a: masses from sorting samples.
-  pub sorted-samples : SamplesPromise
+  pub sorted_samples : SamplesPromise
   -- Document 02, request c: months of one year share the year's factors.
-  pub shared-factors : MonthsPromise
+  pub shared_factors : MonthsPromise
   -- Document 02, request d: the correction factor from uncertainties.
-  pub factor-from-uncertainties : UncertaintyPromise
+  pub factor_from_uncertainties : UncertaintyPromise
   -- Document 02, request f: sludge with a measured dry matter.
-  pub measured-sludge : SludgePromise
+  pub measured_sludge : SludgePromise
   -- Document 02, request g: shuffled files put right.
-  pub shuffled-files : OrderPromise
+  pub shuffled_files : OrderPromise
   -- Document 02, request h: how much decay work a run did.
-  pub decay-work : WorkPromise
+  pub decay_work : WorkPromise
   -- Document 02, request i: the Tunisian reference method.
-  pub tunisian-reductions : TunisiaPromise
+  pub tunisian_reductions : TunisiaPromise
   -- Document 02, request j: a column-by-column calculation.
-  pub columns-of-types : ColumnsPromise
+  pub columns_of_types : ColumnsPromise
   -- Document 02, request k: more waste never shows less gas.
-  pub more-waste : MorePromise
+  pub more_waste : MorePromise
   -- Document 02, request l: yearly totals beside a monthly run.
-  pub yearly-totals : TotalsPromise
+  pub yearly_totals : TotalsPromise

@@ -2,44 +2,44 @@
 use Rattle.std.specs.Prelude.{Bool, ◌&&◌, List, [], ◌∷◌, ℕ, eqb, leb}
 use Rattle.numbers.specs.Eight.{all_of}
 use Rattle.numbers.specs.Fault.{between}
-use Rattle.waste.specs.Kind.{isKind}
-use Rattle.waste.specs.Waste.{massLimit, mostDry, isClimate, isClass}
-use Rattle.record.specs.Fields.{kind_of, climateOf, class_of, dryOf, zerosOf, massOf}
+use Rattle.waste.specs.Kind.{is_kind}
+use Rattle.waste.specs.Waste.{mass_limit, most_dry, is_climate, is_class}
+use Rattle.record.specs.Fields.{kind_of, climate_of, class_of, dry_of, zeros_of, mass_of}
 use Rattle.record.specs.declared.factors.Factors.{Factors}
 
 -- Kind, climate and class are codes, and bytes 14 and 15 are 0.
 abbrev pub codes : List ℕ → List Bool
 codes bytes =
-    isKind (kind_of bytes) ∷ isClimate (climateOf bytes) ∷ isClass (class_of bytes) ∷ eqb (zerosOf bytes) 0 ∷ []
+    is_kind (kind_of bytes) ∷ is_climate (climate_of bytes) ∷ is_class (class_of bytes) ∷ eqb (zeros_of bytes) 0 ∷ []
 
 unfoldable pub coded : List ℕ → Bool
 coded bytes = all_of (codes bytes)
 
 -- The correction factor, and the captured share.
-abbrev pub isFactor : ℕ → Bool
-isFactor factor = between 1 factor 100
+abbrev pub is_factor : ℕ → Bool
+is_factor factor = between 1 factor 100
 
-abbrev pub isShare : ℕ → Bool
-isShare captured = leb captured 10000
+abbrev pub is_share : ℕ → Bool
+is_share captured = leb captured 10000
 
 -- The factors, class aside, are within their ranges.
 abbrev pub ranges : Factors → List Bool
 ranges v =
-    isFactor v.factor
+    is_factor v.factor
     ∷ leb v.oxidation 100
     ∷ leb v.methane 100
     ∷ leb v.docf 100
     ∷ between 1 v.potential 100
-    ∷ isShare v.captured
+    ∷ is_share v.captured
     ∷ []
 
 unfoldable pub in_range : Factors → Bool
 in_range v = all_of (ranges v)
 
 -- m of both kinds of sludge is at most 100, whatever the mass.
-unfoldable pub dryInRange : List ℕ → Bool
-dryInRange bytes = leb (dryOf bytes 7) mostDry && leb (dryOf bytes 8) mostDry
+unfoldable pub dry_in_range : List ℕ → Bool
+dry_in_range bytes = leb (dry_of bytes 7) most_dry && leb (dry_of bytes 8) most_dry
 
 -- The mass at place t is at most 10^9.
 unfoldable pub light : List ℕ → (t : ℕ) → Bool
-light bytes t = leb (massOf bytes t) massLimit
+light bytes t = leb (mass_of bytes t) mass_limit

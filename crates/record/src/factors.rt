@@ -1,20 +1,20 @@
 // The factors of a record, as a value.
 ghost use Rattle.std.specs.Prelude.{◌≡◌};
-ghost use Rattle.record.specs.Fields.{factorsOf};
-ghost use Rattle.record.specs.Ranges.{isFactor, isShare, in_range};
+ghost use Rattle.record.specs.Fields.{factors_of};
+ghost use Rattle.record.specs.Ranges.{is_factor, is_share, in_range};
 
 use crate::bytes::{byte, two};
 
 // Tells whether a number is a correction factor.
 pub fn is_factor(percent: u64) -> bool
-    ensures { result ≡ isFactor percent }
+    ensures { result ≡ is_factor percent }
 {
     numbers::is_between(1, percent, 100)
 }
 
 // Tells whether a number is a captured share.
 pub fn is_share(captured: u64) -> bool
-    ensures { result ≡ isShare captured }
+    ensures { result ≡ is_share captured }
 {
     captured <= 10000
 }
@@ -35,7 +35,7 @@ pub struct Factors {
 impl Factors {
     // Answers the factors of a record.
     pub fn of(bytes: &[u8]) -> Factors
-        ensures { result ≡ factorsOf bytes.now }
+        ensures { result ≡ factors_of bytes.now }
     {
         Factors {
             factor: byte(bytes, 4) as u64,

@@ -1,13 +1,13 @@
 // The other fields of a record, what is allowed in them, and the carbon of a mass.
 ghost use Rattle.std.specs.Prelude.{◌≡◌};
-ghost use Rattle.record.specs.Fields.{periodOf, kind_of, climateOf, factorOf, class_of, capturedOf, dryOf, massOf, depositOf};
-ghost use Rattle.record.specs.Ranges.{coded, dryInRange, light};
+ghost use Rattle.record.specs.Fields.{period_of, kind_of, climate_of, factor_of, class_of, captured_of, dry_of, mass_of, deposit_of};
+ghost use Rattle.record.specs.Ranges.{coded, dry_in_range, light};
 
 use crate::bytes::{byte, four, two};
 
 // Answers the period's number.
 pub fn period(bytes: &[u8]) -> u16
-    ensures { result ≡ periodOf bytes.now }
+    ensures { result ≡ period_of bytes.now }
 {
     two(bytes, 0)
 }
@@ -21,14 +21,14 @@ pub fn kind(bytes: &[u8]) -> u8
 
 // Answers the climate.
 pub fn climate(bytes: &[u8]) -> u8
-    ensures { result ≡ climateOf bytes.now }
+    ensures { result ≡ climate_of bytes.now }
 {
     byte(bytes, 3)
 }
 
 // Answers the correction factor.
 pub fn factor(bytes: &[u8]) -> u8
-    ensures { result ≡ factorOf bytes.now }
+    ensures { result ≡ factor_of bytes.now }
 {
     byte(bytes, 4)
 }
@@ -42,14 +42,14 @@ pub fn class(bytes: &[u8]) -> u8
 
 // Answers the captured share f.
 pub fn captured(bytes: &[u8]) -> u16
-    ensures { result ≡ capturedOf bytes.now }
+    ensures { result ≡ captured_of bytes.now }
 {
     two(bytes, 10)
 }
 
 // Answers the organic dry matter m of a type, in percent; 0 where its carbon content is the default.
 fn dry(bytes: &[u8], waste: u8) -> u8
-    ensures { result ≡ dryOf bytes.now waste }
+    ensures { result ≡ dry_of bytes.now waste }
 {
     match waste {
         7 => byte(bytes, 12),
@@ -60,7 +60,7 @@ fn dry(bytes: &[u8], waste: u8) -> u8
 
 // Tells whether m of both kinds of sludge is within its range.
 pub fn is_dry_in_range(bytes: &[u8]) -> bool
-    ensures { result ≡ dryInRange bytes.now }
+    ensures { result ≡ dry_in_range bytes.now }
 {
     (dry(bytes, 7) <= waste::MOST_DRY) & (dry(bytes, 8) <= waste::MOST_DRY)
 }
@@ -76,7 +76,7 @@ pub fn is_coded(bytes: &[u8]) -> bool
 
 // Answers the mass at place t, in kg.
 fn mass(bytes: &[u8], t: u8) -> u32
-    ensures { result ≡ massOf bytes.now t }
+    ensures { result ≡ mass_of bytes.now t }
 {
     four(bytes, 16 + 4 * t as usize)
 }
@@ -90,7 +90,7 @@ pub fn is_light(bytes: &[u8], t: u8) -> bool
 
 // Answers the carbon that the mass at place t brings, in mg; place 0 has type 1.
 pub fn deposit(bytes: &[u8], t: u8) -> u64
-    ensures { result ≡ depositOf bytes.now t }
+    ensures { result ≡ deposit_of bytes.now t }
 {
     if t > 7 {
         return 0;

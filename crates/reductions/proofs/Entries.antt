@@ -9,45 +9,45 @@ use borrow.Author.Tests.{leb-true, eqb-true, not-false}
 use lib.Dec.{eqb, leb}
 use lib.ListN.{length, get_or, drop}
 use lib.Seq.{drop-cons}
-use Rattle.numbers.proofs.Eight.{both_true, three-true}
-use Rattle.numbers.proofs.Fault.{isBad, clear}
-use Rattle.reductions.specs.Stretch.{mostGrams, gramsLight, allGrams, isStretch, stretchFaults, stretchRefusal}
+use Rattle.numbers.proofs.Eight.{both_true, three_true}
+use Rattle.numbers.proofs.Fault.{is_bad, clear}
+use Rattle.reductions.specs.Stretch.{most_grams, grams_light, all_grams, is_stretch, stretch_faults, stretch_refusal}
 
 -- No entries are over the limit, and so many of them are at most so many times the limit.
-pub light-most : (grams : List ℕ) → gramsLight grams ≡ true → allGrams grams ≤ length grams * mostGrams
-unfolding gramsLight
-light-most [] e = omega arith
-light-most (one ∷ rest) e =
-    let both = both_true (leb one mostGrams) (gramsLight rest) e in
-    omega (arith, leb-true one mostGrams both.0, light-most rest both.1)
+pub light_most : (grams : List ℕ) → grams_light grams ≡ true → all_grams grams ≤ length grams * most_grams
+unfolding grams_light
+light_most [] e = omega arith
+light_most (one ∷ rest) e =
+    let both = both_true (leb one most_grams) (grams_light rest) e in
+    omega (arith, leb-true one most_grams both.0, light_most rest both.1)
 
 module _ (grams : List ℕ) (i : ℕ) (h : i < length grams) where
   here : drop i grams ≡ get_or grams i 0 ∷ drop (i + 1) grams
   here = drop-cons grams i 0 h ∙ rw (add-one i)
 
-  pub light-on : gramsLight (drop i grams) ≡ (leb (get_or grams i 0) mostGrams && gramsLight (drop (i + 1) grams))
-  unfolding gramsLight
-  light-on = ap gramsLight here
+  pub light_on : grams_light (drop i grams) ≡ (leb (get_or grams i 0) most_grams && grams_light (drop (i + 1) grams))
+  unfolding grams_light
+  light_on = ap grams_light here
 
-  pub grams-on : allGrams (drop i grams) ≡ get_or grams i 0 + allGrams (drop (i + 1) grams)
-  grams-on = ap allGrams here
+  pub grams_on : all_grams (drop i grams) ≡ get_or grams i 0 + all_grams (drop (i + 1) grams)
+  grams_on = ap all_grams here
 
 -- What a stretch that is not refused is known to meet.
-module _ (first last years : ℕ) (electricity fuel : List ℕ) (e : stretchRefusal first last years electricity fuel ≡ 0) where
-  none : (k : ℕ) → isBad k (stretchFaults first last years electricity fuel) ≡ false
-  unfolding stretchRefusal
-  none k = clear k (stretchFaults first last years electricity fuel) refl e
+module _ (first last years : ℕ) (electricity fuel : List ℕ) (e : stretch_refusal first last years electricity fuel ≡ 0) where
+  none : (k : ℕ) → is_bad k (stretch_faults first last years electricity fuel) ≡ false
+  unfolding stretch_refusal
+  none k = clear k (stretch_faults first last years electricity fuel) refl e
 
-  pub entries-light : (gramsLight electricity ≡ true) × (gramsLight fuel ≡ true)
-  entries-light = both_true (gramsLight electricity) (gramsLight fuel) (not-false (gramsLight electricity && gramsLight fuel) (none 25))
+  pub entries_light : (grams_light electricity ≡ true) × (grams_light fuel ≡ true)
+  entries_light = both_true (grams_light electricity) (grams_light fuel) (not-false (grams_light electricity && grams_light fuel) (none 25))
 
-  pub entries-count : years ≤ 1200 → (length electricity ≤ 1200) × (length fuel ≤ 1200)
-  unfolding isStretch
-  entries-count few =
+  pub entries_count : years ≤ 1200 → (length electricity ≤ 1200) × (length fuel ≤ 1200)
+  unfolding is_stretch
+  entries_count few =
       let count = last + 1 - first in
       let within = leb 1 first && leb first last && leb last years in
       let both = both_true within (eqb (length electricity) count && eqb (length fuel) count) (not-false _ (none 24)) in
-      let tests = three-true (leb 1 first) (leb first last) (leb last years) both.0 in
+      let tests = three_true (leb 1 first) (leb first last) (leb last years) both.0 in
       let counts = both_true (eqb (length electricity) count) (eqb (length fuel) count) both.1 in
       let low = leb-true 1 first tests.0 in
       let high = leb-true last years tests.1.1 in

@@ -14,14 +14,14 @@ by_order : (below : Bool) (a b : ℕ) → mag (cond below (negsuc (b - suc a)) (
 by_order true a b = omega arith
 by_order false a b = omega arith
 
-pub less-most : (z : ℤ) (x : ℕ) → mag (z -ℤ pos x) ≤ mag z + x
-less-most (pos a) zero = omega arith
-less-most (pos a) (suc x) = omega (arith, by_order (ltb a (suc x)) a (suc x))
-less-most (negsuc a) zero = omega (arith, by_order (ltb 0 (suc a)) 0 (suc a))
-less-most (negsuc a) (suc x) = omega arith
+pub less_most : (z : ℤ) (x : ℕ) → mag (z -ℤ pos x) ≤ mag z + x
+less_most (pos a) zero = omega arith
+less_most (pos a) (suc x) = omega (arith, by_order (ltb a (suc x)) a (suc x))
+less_most (negsuc a) zero = omega (arith, by_order (ltb 0 (suc a)) 0 (suc a))
+less_most (negsuc a) (suc x) = omega arith
 
-pub less-fits : (z : ℤ) (x : ℕ) → mag z + x < 2 ^ 63 → SFits w64 (z -ℤ pos x)
-less-fits z x h = record { sfits = omega (arith, less-most z x) }
+pub less_fits : (z : ℤ) (x : ℕ) → mag z + x < 2 ^ 63 → SFits w64 (z -ℤ pos x)
+less_fits z x h = record { sfits = omega (arith, less_most z x) }
 
 -- The answer of a call is read back from its bits.
 pub signed_back : {z : ℤ} → mag z < 2 ^ 63 → to_z w64 (of_z w64 z) ≡ z

@@ -7,73 +7,73 @@ use native.Mathlib.Nat.{mul-le-mul_right}
 use native.Mathlib.Omega.{arith}
 use Rattle.numbers.specs.Fault.{between}
 use Rattle.numbers.proofs.Lists.{added_more}
-use Rattle.waste.specs.Waste.{correctionOf}
+use Rattle.waste.specs.Waste.{correction_of}
 use Rattle.record.specs.Ranges.{in_range}
 use Rattle.record.specs.declared.factors.Factors.{Factors}
 use Rattle.record.proofs.Laws.{ranged}
-use Rattle.figure.specs.Figure.{x1Of, x2Of, gramsOf, figureOf}
-use Rattle.figure.proofs.Laws.{figure-most, bound-half}
-use Rattle.figure.proofs.Grows.{figure-grows, bound-grows}
-use Rattle.reductions.specs.Year.{Year, inClass, referenceOf, projectOf, projectBound, referenceBound, bounds_of, stretchOf, sumsOf, withYear}
+use Rattle.figure.specs.Figure.{x1_of, x2_of, grams_of, figure_of}
+use Rattle.figure.proofs.Laws.{figure_most, bound_half}
+use Rattle.figure.proofs.Grows.{figure_grows, bound_grows}
+use Rattle.reductions.specs.Year.{Year, in_class, reference_of, project_of, project_bound, reference_bound, bounds_of, stretch_of, sums_of, with_year}
 
-pub stretch-more : (first last : ℕ) (years : List Year) (year : Year)
-    → stretchOf first last (years ++ (year ∷ [])) ≡ cond (between first year.number last) (stretchOf first last years ++ (year ∷ [])) (stretchOf first last years)
-unfolding stretchOf
-stretch-more first last [] year = refl
-stretch-more first last (one ∷ years) year =
-    ap (λ (ys : List Year). cond (between first one.number last) (one ∷ ys) ys) (stretch-more first last years year)
+pub stretch_more : (first last : ℕ) (years : List Year) (year : Year)
+    → stretch_of first last (years ++ (year ∷ [])) ≡ cond (between first year.number last) (stretch_of first last years ++ (year ∷ [])) (stretch_of first last years)
+unfolding stretch_of
+stretch_more first last [] year = refl
+stretch_more first last (one ∷ years) year =
+    ap (λ (ys : List Year). cond (between first one.number last) (one ∷ ys) ys) (stretch_more first last years year)
     ∙ both (between first one.number last) (between first year.number last)
   where
-    both : (a b : Bool) → let ys = stretchOf first last years in
+    both : (a b : Bool) → let ys = stretch_of first last years in
         cond a (one ∷ cond b (ys ++ (year ∷ [])) ys) (cond b (ys ++ (year ∷ [])) ys) ≡ cond b (cond a (one ∷ ys) ys ++ (year ∷ [])) (cond a (one ∷ ys) ys)
     both true true = refl
     both true false = refl
     both false true = refl
     both false false = refl
 
-pub sums-more : (test : Bool) (stretch : List Year) (year : Year)
-    → sumsOf (cond test (stretch ++ (year ∷ [])) stretch) ≡ cond test (withYear (sumsOf stretch) year) (sumsOf stretch)
-unfolding sumsOf withYear
-sums-more true stretch year =
+pub sums_more : (test : Bool) (stretch : List Year) (year : Year)
+    → sums_of (cond test (stretch ++ (year ∷ [])) stretch) ≡ cond test (with_year (sums_of stretch) year) (sums_of stretch)
+unfolding sums_of with_year
+sums_more true stretch year =
     λ i. record {
-      reference = added_more referenceOf stretch year i;
-      project = added_more projectOf stretch year i;
+      reference = added_more reference_of stretch year i;
+      project = added_more project_of stretch year i;
       bound = added_more bounds_of stretch year i;
     }
-sums-more false stretch year = refl
+sums_more false stretch year = refl
 
 -- The class has no range of its own.
-pub in-class : (v : Factors) (class : ℕ) → in_range v ≡ true → in_range (inClass class v) ≡ true
-unfolding in_range inClass
-in-class v class e = e
+pub in_class_lem : (v : Factors) (class : ℕ) → in_range v ≡ true → in_range (in_class class v) ≡ true
+unfolding in_range in_class
+in_class_lem v class e = e
 
 -- How much a year adds: figures of at most 2/15 of x0, and bounds of at most B and 7 together.
 module _ (year : Year) (e : in_range year.factors ≡ true) where
-  pub reference-most : referenceOf year + referenceOf year ≤ year.release
-  unfolding referenceOf
-  reference-most = omega (arith, figure-most (inClass 1 year.factors) year.release (in-class year.factors 1 e))
+  pub reference_most : reference_of year + reference_of year ≤ year.release
+  unfolding reference_of
+  reference_most = omega (arith, figure_most (in_class 1 year.factors) year.release (in_class_lem year.factors 1 e))
 
-  pub project-most : projectOf year + projectOf year ≤ year.release
-  unfolding projectOf
-  project-most = omega (arith, figure-most (inClass 2 year.factors) year.release (in-class year.factors 2 e))
+  pub project_most : project_of year + project_of year ≤ year.release
+  unfolding project_of
+  project_most = omega (arith, figure_most (in_class 2 year.factors) year.release (in_class_lem year.factors 2 e))
 
-  pub bounds-most : bounds_of year ≤ year.B + 7
-  unfolding bounds_of referenceBound projectBound
-  bounds-most = omega (arith, bound-half year.factors year.B e)
+  pub bounds_most : bounds_of year ≤ year.B + 7
+  unfolding bounds_of reference_bound project_bound
+  bounds_most = omega (arith, bound_half year.factors year.B e)
 
 -- With the same factors, figures do not fall where the release grows, nor bounds where B grows.
 module _ (year year' : Year) (same : year.factors ≡ year'.factors) where
-  pub reference-grows : year.release ≤ year'.release → referenceOf year ≤ referenceOf year'
-  unfolding referenceOf
-  reference-grows h = rw same (omega (arith, figure-grows (inClass 1 year'.factors) year.release year'.release h))
+  pub reference_grows : year.release ≤ year'.release → reference_of year ≤ reference_of year'
+  unfolding reference_of
+  reference_grows h = rw same (omega (arith, figure_grows (in_class 1 year'.factors) year.release year'.release h))
 
-  pub project-grows : year.release ≤ year'.release → projectOf year ≤ projectOf year'
-  unfolding projectOf
-  project-grows h = rw same (figure-grows (inClass 2 year'.factors) year.release year'.release h)
+  pub project_grows : year.release ≤ year'.release → project_of year ≤ project_of year'
+  unfolding project_of
+  project_grows h = rw same (figure_grows (in_class 2 year'.factors) year.release year'.release h)
 
-  pub bounds-grow : year.B ≤ year'.B → (projectBound year ≤ projectBound year') × (referenceBound year ≤ referenceBound year')
-  unfolding referenceBound projectBound
-  bounds-grow h = let grown = bound-grows year'.factors year.B year'.B h in rw same (grown, omega (arith, grown))
+  pub bounds_grow : year.B ≤ year'.B → (project_bound year ≤ project_bound year') × (reference_bound year ≤ reference_bound year')
+  unfolding reference_bound project_bound
+  bounds_grow h = let grown = bound_grows year'.factors year.B year'.B h in rw same (grown, omega (arith, grown))
 
 -- Half the correction gives half the figure, but for 2 g: on u, the product of what both chains have before the site class, at a GWP of W.
 module _ (u W : ℕ) where
@@ -83,13 +83,13 @@ module _ (u W : ℕ) where
   abbrev half : ℕ
   half = u * 50 / 10 ^ 8 * 4 * W / 3000
 
-  half-most : half + half ≤ whole
-  half-most =
+  half_most : half + half ≤ whole
+  half_most =
       let twice : u * 50 / 10 ^ 8 + u * 50 / 10 ^ 8 ≤ u * 100 / 10 ^ 8 = omega arith in
       omega (arith, mul-le-mul_right (4 * W) twice)
 
-  half-least : W ≤ 100 → whole ≤ half + half + 2
-  half-least few =
+  half_least : W ≤ 100 → whole ≤ half + half + 2
+  half_least few =
       let twice : u * 100 / 10 ^ 8 ≤ u * 50 / 10 ^ 8 + u * 50 / 10 ^ 8 + 1 = omega arith in
       omega (arith, mul-le-mul_right (4 * W) twice)
 
@@ -101,10 +101,10 @@ module _ (year : Year) where
   abbrev u : ℕ
   u = year.release * v.factor * (10000 - v.captured) / 10 ^ 6 * (100 - v.oxidation) * v.methane * v.docf
 
-  pub project-below : projectOf year ≤ referenceOf year
-  unfolding projectOf referenceOf figureOf gramsOf x2Of x1Of inClass correctionOf
-  project-below = omega (arith, half-most u v.potential)
+  pub project_below : project_of year ≤ reference_of year
+  unfolding project_of reference_of figure_of grams_of x2_of x1_of in_class correction_of
+  project_below = omega (arith, half_most u v.potential)
 
-  pub apart-most : in_range v ≡ true → 1500 * referenceOf year ≤ 1500 * projectOf year + 46 * year.release + 1500
-  unfolding projectOf referenceOf figureOf gramsOf x2Of x1Of inClass correctionOf
-  apart-most e = omega (arith, half-least u v.potential (ranged v e).potential, figure-most (inClass 1 v) year.release (in-class v 1 e))
+  pub apart_most : in_range v ≡ true → 1500 * reference_of year ≤ 1500 * project_of year + 46 * year.release + 1500
+  unfolding project_of reference_of figure_of grams_of x2_of x1_of in_class correction_of
+  apart_most e = omega (arith, half_least u v.potential (ranged v e).potential, figure_most (in_class 1 v) year.release (in_class_lem v 1 e))

@@ -4,32 +4,32 @@ use Rattle.numbers.specs.Fault.{Fault, ◌when◌, first_of}
 use Rattle.numbers.specs.Lists.{added}
 
 -- 'entered electricity and fuel grams (each at most 10^15 a year)'
-abbrev pub mostGrams : ℕ
-mostGrams = 10 ^ 15
+abbrev pub most_grams : ℕ
+most_grams = 10 ^ 15
 
-unfoldable pub gramsLight : List ℕ → Bool
-gramsLight [] = true
-gramsLight (grams ∷ rest) = leb grams mostGrams && gramsLight rest
+unfoldable pub grams_light : List ℕ → Bool
+grams_light [] = true
+grams_light (grams ∷ rest) = leb grams most_grams && grams_light rest
 
-abbrev pub allGrams : List ℕ → ℕ
-allGrams grams = added (λ g. g) grams
+abbrev pub all_grams : List ℕ → ℕ
+all_grams grams = added (λ g. g) grams
 
 -- The years are some, they are within the accepted ones, and there is one entry of each kind of grams for each of them.
-unfoldable pub isStretch : (first last years electricity fuel : ℕ) → Bool
-isStretch first last years electricity fuel =
+unfoldable pub is_stretch : (first last years electricity fuel : ℕ) → Bool
+is_stretch first last years electricity fuel =
     leb 1 first && leb first last && leb last years && (eqb electricity (last + 1 - first) && eqb fuel (last + 1 - first))
 
 -- 'for a stretch 24 where it is empty, not within the accepted years or without one entry of each kind of grams for each year, then 25 grams
 -- over the limit'
-abbrev pub stretchFaults : (first last years : ℕ) → (electricity fuel : List ℕ) → List Fault
-stretchFaults first last years electricity fuel =
-    24 when not (isStretch first last years (length electricity) (length fuel))
-    ∷ 25 when not (gramsLight electricity && gramsLight fuel)
+abbrev pub stretch_faults : (first last years : ℕ) → (electricity fuel : List ℕ) → List Fault
+stretch_faults first last years electricity fuel =
+    24 when not (is_stretch first last years (length electricity) (length fuel))
+    ∷ 25 when not (grams_light electricity && grams_light fuel)
     ∷ []
 
-unfoldable pub stretchRefusal : (first last years : ℕ) → (electricity fuel : List ℕ) → ℕ
-stretchRefusal first last years electricity fuel = first_of (stretchFaults first last years electricity fuel)
+unfoldable pub stretch_refusal : (first last years : ℕ) → (electricity fuel : List ℕ) → ℕ
+stretch_refusal first last years electricity fuel = first_of (stretch_faults first last years electricity fuel)
 
 -- 'Reference less project less entered electricity and fuel grams [..] is the reduction, below zero where the project does worse'
-unfoldable pub lessAll : (reference project electricity fuel : ℕ) → ℤ
-lessAll reference project electricity fuel = pos reference -ℤ pos project -ℤ pos electricity -ℤ pos fuel
+unfoldable pub less_all : (reference project electricity fuel : ℕ) → ℤ
+less_all reference project electricity fuel = pos reference -ℤ pos project -ℤ pos electricity -ℤ pos fuel

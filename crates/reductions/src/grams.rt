@@ -1,14 +1,14 @@
 // Grams of electricity and fuel, the refusals of a stretch, and the reduction.
 ghost use Rattle.std.specs.Prelude.{true, ◌≡◌, ◌+◌, ◌*◌, ◌^◌, ◌≤◌, ◌<◌, pos, ◌-ℤ◌, length};
 ghost use Rattle.std.specs.Int.Signed.{mag};
-ghost use Rattle.reductions.specs.Stretch.{mostGrams, gramsLight, allGrams, isStretch, stretchRefusal, lessAll};
+ghost use Rattle.reductions.specs.Stretch.{most_grams, grams_light, all_grams, is_stretch, stretch_refusal, less_all};
 
 // The most grams CO2e of electricity, and the most of fuel, that a year has.
 pub const GRAMS_LIMIT: u64 = 1_000_000_000_000_000;
 
 // Tells whether no entry is over the limit.
 fn are_light(grams: &[u64]) -> bool
-    ensures { result ≡ gramsLight grams.now }
+    ensures { result ≡ grams_light grams.now }
 {
     let mut all = true;
     let mut i: usize = 0;
@@ -21,8 +21,8 @@ fn are_light(grams: &[u64]) -> bool
 
 // Answers all grams of some years together.
 pub fn all_grams(grams: &[u64]) -> u64
-    requires { (gramsLight grams.now ≡ true) × (length grams.now ≤ 1200) }
-    ensures { (result ≡ allGrams grams.now) × (result ≤ 1200 * mostGrams) }
+    requires { (grams_light grams.now ≡ true) × (length grams.now ≤ 1200) }
+    ensures { (result ≡ all_grams grams.now) × (result ≤ 1200 * most_grams) }
 {
     let mut sum: u64 = 0;
     let mut i: usize = 0;
@@ -35,7 +35,7 @@ pub fn all_grams(grams: &[u64]) -> u64
 
 // Tells whether years are some, within the accepted ones, and have so many entries of each kind of grams.
 fn is_stretch(first: u64, last: u64, years: u64, electricity: usize, fuel: usize) -> bool
-    ensures { result ≡ isStretch first last years electricity fuel }
+    ensures { result ≡ is_stretch first last years electricity fuel }
 {
     if (1 <= first) & (first <= last) & (last <= years) {
         let count = last - first + 1;
@@ -46,7 +46,7 @@ fn is_stretch(first: u64, last: u64, years: u64, electricity: usize, fuel: usize
 
 // Answers the refusal of a stretch, 0 if none.
 pub fn stretch_refusal(first: u64, last: u64, years: u64, electricity: &[u64], fuel: &[u64]) -> u8
-    ensures { result ≡ stretchRefusal first last years electricity.now fuel.now }
+    ensures { result ≡ stretch_refusal first last years electricity.now fuel.now }
 {
     if !is_stretch(first, last, years, electricity.len(), fuel.len()) {
         return 24;
@@ -76,7 +76,7 @@ fn less(z: i64, x: u64) -> i64
 // Answers reference less project less electricity less fuel, which may be below zero.
 pub fn less_all(reference: u64, project: u64, electricity: u64, fuel: u64) -> i64
     requires { reference + project + electricity + fuel < 2 ^ 63 }
-    ensures { result ≡ lessAll reference project electricity fuel }
+    ensures { result ≡ less_all reference project electricity fuel }
 {
     less(less(less(signed(reference), project), electricity), fuel)
 }

@@ -1,8 +1,8 @@
 // One year: its reference, its project and both bounds.
 ghost use Rattle.std.specs.Prelude.{true, ◌≡◌, ◌+◌, ◌^◌, ◌≤◌, ◌<◌};
 ghost use Rattle.record.specs.Ranges.{in_range};
-ghost use Rattle.figure.specs.Figure.{figureOf, boundOf};
-ghost use Rattle.reductions.specs.Year.{inClass, withYear};
+ghost use Rattle.figure.specs.Figure.{figure_of, bound_of};
+ghost use Rattle.reductions.specs.Year.{in_class, with_year};
 
 use record::Factors;
 
@@ -21,7 +21,7 @@ pub struct Sums {
 
 // Answers factors with another class in the place of theirs.
 fn in_class(factors: Factors, class: u8) -> Factors
-    ensures { result ≡ inClass class factors }
+    ensures { result ≡ in_class class factors }
 {
     Factors {
         factor: factors.factor,
@@ -37,7 +37,7 @@ fn in_class(factors: Factors, class: u8) -> Factors
 // Answers the figure of x0 with a class in the place of that of the factors.
 fn figure_in_class(factors: Factors, class: u8, x0: u64) -> u64
     requires { in_range factors ≡ true }
-    ensures { (result ≡ figureOf (inClass class factors) x0) × (result + result ≤ x0) }
+    ensures { (result ≡ figure_of (in_class class factors) x0) × (result + result ≤ x0) }
 {
     figure::figure(in_class(factors, class), x0)
 }
@@ -45,7 +45,7 @@ fn figure_in_class(factors: Factors, class: u8, x0: u64) -> u64
 // Answers the bound of a project's year from B.
 fn year_bound(factors: Factors, margins: u64) -> u64
     requires { in_range factors ≡ true }
-    ensures { (result ≡ boundOf factors margins) × (result + result ≤ margins + 6) }
+    ensures { (result ≡ bound_of factors margins) × (result + result ≤ margins + 6) }
 {
     figure::bound(factors, margins)
 }
@@ -54,7 +54,7 @@ fn year_bound(factors: Factors, margins: u64) -> u64
 pub fn with_year(sums: Sums, factors: Factors, x0: u64, margins: u64) -> Sums
     requires factors_value { in_range factors ≡ true }
     requires x0_bound { (sums.reference + x0 < 2 ^ 64) × (sums.project + x0 < 2 ^ 64) × (sums.bound + margins < 2 ^ 63) }
-    ensures { result ≡ withYear sums (record { number = 0; factors = factors; release = x0; B = margins }) }
+    ensures { result ≡ with_year sums (record { number = 0; factors = factors; release = x0; B = margins }) }
 {
     let anaerobic = figure_in_class(factors, REFERENCE_CLASS, x0);
     let reference = numbers::mul_div(anaerobic, 73, 100);

@@ -1,10 +1,10 @@
 // How far the records of a file go before a length refuses one: refusals 1 and 2 of document 01, ahead of a run's loop.
 ghost use Rattle.std.specs.Prelude.{◌≡◌};
-ghost use Rattle.refusal.specs.Reach.{reachOf, leftOver};
+ghost use Rattle.refusal.specs.Reach.{reach_of, left_over};
 
 // Answers how many bytes of so many the records take that are whole and have room for their output records.
 pub fn reach(records: usize, room: usize) -> usize
-    ensures { result ≡ reachOf records room }
+    ensures { result ≡ reach_of records room }
 {
     if records < room {
         return records / record::BYTES * record::BYTES;
@@ -14,7 +14,7 @@ pub fn reach(records: usize, room: usize) -> usize
 
 // Answers the refusal of what is left of a file behind them: no whole record (1), or no room for it (2).
 pub fn left_over(bytes: usize) -> u8
-    ensures { result ≡ leftOver bytes }
+    ensures { result ≡ left_over bytes }
 {
     if bytes == 0 {
         return 0;

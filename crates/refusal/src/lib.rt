@@ -3,10 +3,10 @@
 mod lengths;
 
 ghost use Rattle.std.specs.Prelude.{cond, ◌≡◌, eqb};
-ghost use Rattle.numbers.specs.Eight.{everyOf};
+ghost use Rattle.numbers.specs.Eight.{every_of};
 ghost use Rattle.numbers.specs.Fault.{first_of, ahead};
 ghost use Rattle.record.specs.Ranges.{light};
-ghost use Rattle.refusal.specs.Refusal.{continues, faultsOf};
+ghost use Rattle.refusal.specs.Refusal.{continues, faults_of};
 
 pub use lengths::{left_over, reach};
 use record::Factors;
@@ -29,7 +29,7 @@ pub fn early(
     bytes: &[u8],
     room: usize,
 ) -> u8
-    ensures { result ≡ first_of (ahead 9 (faultsOf good n kind climate year bytes.now room)) }
+    ensures { result ≡ first_of (ahead 9 (faults_of good n kind climate year bytes.now room)) }
 {
     if bytes.len() != record::BYTES {
         return 1;
@@ -63,7 +63,7 @@ pub fn early(
 
 // Tells whether every mass of a record is at most the limit.
 fn are_light(bytes: &[u8]) -> bool
-    ensures { result ≡ everyOf (light bytes.now) 8 }
+    ensures { result ≡ every_of (light bytes.now) 8 }
 {
     let mut all = true;
     for t in 0..8u8 {
@@ -74,7 +74,7 @@ fn are_light(bytes: &[u8]) -> bool
 
 // Answers the refusal of a record, 0 if none: the one that everything before the masses decides, and else 9 for a mass over the limit.
 pub fn with_masses(early: u8, bytes: &[u8]) -> u8
-    ensures { result ≡ cond (eqb early 0) (cond (everyOf (light bytes.now) 8) 0 9) early }
+    ensures { result ≡ cond (eqb early 0) (cond (every_of (light bytes.now) 8) 0 9) early }
 {
     if early != 0 {
         return early;

@@ -1,9 +1,9 @@
 // The figures, from the eight columns.
 ghost use Rattle.std.specs.Prelude.{[], ◌∷◌, ◌++◌, ◌≡◌, ◌*◌, ◌≤◌, length, drop};
 ghost use Rattle.numbers.specs.Lists.{Each};
-ghost use Rattle.record.specs.Fields.{recordBytes};
-ghost use Rattle.run.specs.History.{recordsOf, wholeRun};
-ghost use Rattle.by_type.specs.Across.{HoldsReleases, HoldsAt, acrossAt, figuresAcross};
+ghost use Rattle.record.specs.Fields.{record_bytes};
+ghost use Rattle.run.specs.History.{records_of, whole_run};
+ghost use Rattle.by_type.specs.Across.{HoldsReleases, HoldsAt, across_at, figures_across};
 
 use record::Factors;
 
@@ -20,7 +20,7 @@ fn across(
     i: usize,
 ) -> u64
     requires { Each (HoldsAt i) 0 (wood.now ∷ paper.now ∷ food.now ∷ textiles.now ∷ garden.now ∷ inert.now ∷ domestic.now ∷ industrial.now ∷ []) }
-    ensures { result ≡ acrossAt (wood.now ∷ paper.now ∷ food.now ∷ textiles.now ∷ garden.now ∷ inert.now ∷ domestic.now ∷ industrial.now ∷ []) i }
+    ensures { result ≡ across_at (wood.now ∷ paper.now ∷ food.now ∷ textiles.now ∷ garden.now ∷ inert.now ∷ domestic.now ∷ industrial.now ∷ []) i }
 {
     wood[i] + paper[i] + food[i] + textiles[i] + garden[i] + inert[i] + domestic[i] + industrial[i]
 }
@@ -39,10 +39,10 @@ pub fn add_across(
     industrial: &[u64],
     figures: &mut [u64],
 )
-    requires file_value { ((wholeRun file.now).refusal ≡ 0) × (recordBytes * n ≡ length file.now) }
+    requires file_value { ((whole_run file.now).refusal ≡ 0) × (record_bytes * n ≡ length file.now) }
     requires each { Each (HoldsReleases file.now n) 0 (wood.now ∷ paper.now ∷ food.now ∷ textiles.now ∷ garden.now ∷ inert.now ∷ domestic.now ∷ industrial.now ∷ []) }
     requires n_in_bounds { n ≤ length figures.old }
-    ensures { figures.new ≡ figuresAcross (wood.now ∷ paper.now ∷ food.now ∷ textiles.now ∷ garden.now ∷ inert.now ∷ domestic.now ∷ industrial.now ∷ []) 0 (recordsOf file.now) ++ drop n figures.old }
+    ensures { figures.new ≡ figures_across (wood.now ∷ paper.now ∷ food.now ∷ textiles.now ∷ garden.now ∷ inert.now ∷ domestic.now ∷ industrial.now ∷ []) 0 (records_of file.now) ++ drop n figures.old }
 {
     for i in 0..n {
         let at = record::BYTES * i;

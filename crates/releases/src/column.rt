@@ -3,16 +3,16 @@ ghost use Rattle.std.specs.Prelude.{[], ◌∷◌, ◌++◌, ◌≡◌, ◌*◌,
 ghost use Rattle.std.proofs.lemmas.List.Edits.{sets};
 ghost use Rattle.numbers.specs.Eight.{eight};
 ghost use Rattle.numbers.specs.Lists.{Each};
-ghost use Rattle.record.specs.Fields.{recordBytes, kind_of, climateOf, depositOf};
+ghost use Rattle.record.specs.Fields.{record_bytes, kind_of, climate_of, deposit_of};
 ghost use Rattle.carbon.specs.Carbon.{entry_at};
-ghost use Rattle.run.specs.History.{recordsOf, wholeRun};
-ghost use Rattle.by_type.specs.Alone.{releasesAlone, stockAlone, HasPlaces, filledFrom, fourStocks};
+ghost use Rattle.run.specs.History.{records_of, whole_run};
+ghost use Rattle.by_type.specs.Alone.{releases_alone, stock_alone, HasPlaces, filled_from, four_stocks};
 
 // Answers the carbon that a record brings of the type at place t, in mg. Each place is written out, so that the compiler knows the type's
 // carbon content.
 fn deposit_at(bytes: &[u8], t: u8) -> u64
     requires { t < 8 }
-    ensures { result ≡ depositOf bytes.now t }
+    ensures { result ≡ deposit_of bytes.now t }
 {
     match t {
         0 => record::deposit(bytes, 0),
@@ -36,11 +36,11 @@ fn fill_column(
     t: u8,
     stocks: [u64; 8],
 ) -> [u64; 8]
-    requires file_value { ((wholeRun file.now).refusal ≡ 0) × (recordBytes * n ≡ length file.now) }
-    requires entries_value { entries ≡ eight (entry_at (kind_of file.now) (climateOf file.now)) }
+    requires file_value { ((whole_run file.now).refusal ≡ 0) × (record_bytes * n ≡ length file.now) }
+    requires entries_value { entries ≡ eight (entry_at (kind_of file.now) (climate_of file.now)) }
     requires t_bound { (t < 8) × (n ≤ length column.old) }
-    ensures value { result ≡ set stocks t (stockAlone t 0 (recordsOf file.now)) }
-    ensures column_after { column.new ≡ releasesAlone t 0 (recordsOf file.now) ++ drop n column.old }
+    ensures value { result ≡ set stocks t (stock_alone t 0 (records_of file.now)) }
+    ensures column_after { column.new ≡ releases_alone t 0 (records_of file.now) ++ drop n column.old }
 {
     let entry = entries[t as usize];
     let mut stock: u64 = 0;
@@ -69,11 +69,11 @@ pub fn fill_four(
     third: &mut [u64],
     fourth: &mut [u64],
 ) -> [u64; 8]
-    requires file_value { ((wholeRun file.now).refusal ≡ 0) × (recordBytes * n ≡ length file.now) }
-    requires entries_value { entries ≡ eight (entry_at (kind_of file.now) (climateOf file.now)) }
+    requires file_value { ((whole_run file.now).refusal ≡ 0) × (record_bytes * n ≡ length file.now) }
+    requires entries_value { entries ≡ eight (entry_at (kind_of file.now) (climate_of file.now)) }
     requires t_bound { (t ≤ 4) × Each (HasPlaces n) t (first.old ∷ second.old ∷ third.old ∷ fourth.old ∷ []) }
-    ensures value { result ≡ sets stocks t (fourStocks file.now t) }
-    ensures fourth_after { first.new ∷ second.new ∷ third.new ∷ fourth.new ∷ [] ≡ filledFrom file.now n t (first.old ∷ second.old ∷ third.old ∷ fourth.old ∷ []) }
+    ensures value { result ≡ sets stocks t (four_stocks file.now t) }
+    ensures fourth_after { first.new ∷ second.new ∷ third.new ∷ fourth.new ∷ [] ≡ filled_from file.now n t (first.old ∷ second.old ∷ third.old ∷ fourth.old ∷ []) }
 {
     let one = fill_column(first, file, n, entries, t, stocks);
     let two = fill_column(second, file, n, entries, t + 1, one);

@@ -1,7 +1,7 @@
 // What the arguments ask for: an order, and the file or its report.
 ghost use Rattle.std.specs.Prelude.{◌≡◌};
 ghost use Rattle.io.specs.Counts.{IsPrefixLen};
-ghost use Rattle.repair.specs.Digits.{typeNamed, typesNamed};
+ghost use Rattle.repair.specs.Digits.{type_named, types_named};
 
 // The room for an order: a digit more than it has, so that a longer word is seen to be none, and never cut to one.
 pub(crate) const ORDER: usize = 9;
@@ -34,7 +34,7 @@ pub(crate) fn asked_for() -> Asked {
 
 // Answers the type that a digit names, 0 for a byte that names none.
 fn type_of(digit: u8) -> u8
-    ensures { result ≡ typeNamed digit }
+    ensures { result ≡ type_named digit }
 {
     if digit < b'1' {
         return 0;
@@ -47,7 +47,7 @@ fn type_of(digit: u8) -> u8
 
 // Puts the types that digits name in their places.
 fn name_types(word: &mut [u8])
-    ensures { word.new ≡ typesNamed word.old }
+    ensures { word.new ≡ types_named word.old }
 {
     let mut p: usize = 0;
     while p < word.len() {

@@ -5,7 +5,7 @@ mod account;
 mod arguments;
 
 ghost use Rattle.std.specs.Prelude.{◌≡◌, ◌+◌, ◌≤◌, length};
-ghost use Rattle.repair.specs.Rooms.{recordsTaken, fileBytes};
+ghost use Rattle.repair.specs.Rooms.{records_taken, file_bytes};
 
 use arguments::Asked;
 use libc::STDOUT_FILENO;
@@ -18,21 +18,21 @@ const FILE_BYTES: usize = record::BYTES * RECORDS;
 
 // Answers the room for a file put right.
 fn file_room() -> [u8; FILE_BYTES]
-    ensures { length result ≡ fileBytes }
+    ensures { length result ≡ file_bytes }
 {
     [0u8; FILE_BYTES]
 }
 
 // Answers the room for a report.
 fn report_room() -> [u8; RECORDS]
-    ensures { length result ≡ recordsTaken }
+    ensures { length result ≡ records_taken }
 {
     [0u8; RECORDS]
 }
 
 // Answers the room for a file that is read: a byte more than the longest has, so that a longer one is seen to be longer.
 fn input_room() -> [u8; FILE_BYTES + 1]
-    ensures { length result ≡ fileBytes + 1 }
+    ensures { length result ≡ file_bytes + 1 }
 {
     [0u8; FILE_BYTES + 1]
 }
@@ -52,7 +52,7 @@ fn write_out(reports: bool, file: &[u8], report: &[u8]) -> bool {
 
 // Puts a file right, and tells how that went; nothing is written of a refused one.
 fn put_right(reports: bool, types: &[u8], file: &[u8])
-    requires { length file.now ≤ fileBytes }
+    requires { length file.now ≤ file_bytes }
 {
     let mut out = file_room();
     let mut report = report_room();

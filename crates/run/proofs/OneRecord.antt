@@ -6,51 +6,51 @@ use native.Mathlib.Decide.{ℕ_discrete}
 use native.Mathlib.Omega.{arith}
 use borrow.Author.Tests.{ne_eqb}
 use lib.ListN.{length}
-use Rattle.record.specs.Fields.{recordBytes}
-use Rattle.refusal.specs.Refusal.{faultsOf}
-use Rattle.ledger.specs.Step.{workOf}
-use Rattle.ledger.specs.Refusal.{refusalOf}
-use Rattle.ledger.specs.Take.{acceptedOf, written_of}
-use Rattle.run.specs.History.{outputs, workOver, recordsOf, Run, run_of, outcomeOf, out_of}
+use Rattle.record.specs.Fields.{record_bytes}
+use Rattle.refusal.specs.Refusal.{faults_of}
+use Rattle.ledger.specs.Step.{work_of}
+use Rattle.ledger.specs.Refusal.{refusal_of}
+use Rattle.ledger.specs.Take.{accepted_of, written_of}
+use Rattle.run.specs.History.{outputs, work_over, records_of, Run, run_of, outcome_of, out_of}
 use Rattle.ledger.specs.declared.book.Ledger.{Ledger}
-use Rattle.ledger.proofs.Take.{output-length, refused-writes-nothing}
-use Rattle.run.proofs.History.{one-record, begun-refusal, stopped, onFrom, acceptedTurn, run-goes-on, run-stops, run_ends}
+use Rattle.ledger.proofs.Take.{output_length, refused_writes_nothing}
+use Rattle.run.proofs.History.{one_record, begun_refusal, stopped, on_from, accepted_turn, run_goes_on, run_stops, run_ends}
 
 module _ (l : Ledger) (bytes out : List ℕ) where
   abbrev room : ℕ
   room = length out
 
   -- Bytes that are no record are refused with 1.
-  pub no_record : (length bytes ≡ recordBytes → ⊥) → refusalOf l bytes room ≡ 1
-  unfolding refusalOf faultsOf
-  no_record e = simp (ne_eqb (length bytes) recordBytes e)
+  pub no_record : (length bytes ≡ record_bytes → ⊥) → refusal_of l bytes room ≡ 1
+  unfolding refusal_of faults_of
+  no_record e = simp (ne_eqb (length bytes) record_bytes e)
 
-  module _ (size : length bytes ≡ recordBytes) where
-    abbrev pub oneRun : Run
-    oneRun = run_of l (recordsOf bytes) room
+  module _ (size : length bytes ≡ record_bytes) where
+    abbrev pub one_run : Run
+    one_run = run_of l (records_of bytes) room
 
-    one-taken : refusalOf l bytes room ≡ 0 → oneRun ≡ onFrom (acceptedTurn l bytes ∷ []) (stopped (acceptedOf l bytes).ledger 0)
-    one-taken e = rw (one-record bytes size) (run-goes-on l bytes [] room e ∙ rw (run_ends (acceptedOf l bytes).ledger))
+    one_taken : refusal_of l bytes room ≡ 0 → one_run ≡ on_from (accepted_turn l bytes ∷ []) (stopped (accepted_of l bytes).ledger 0)
+    one_taken e = rw (one_record bytes size) (run_goes_on l bytes [] room e ∙ rw (run_ends (accepted_of l bytes).ledger))
 
-    one-refused : (refusalOf l bytes room ≡ 0 → ⊥) → oneRun ≡ stopped l (refusalOf l bytes room)
-    one-refused e = rw (one-record bytes size) (run-stops l bytes [] room (refusalOf l bytes room) refl e)
+    one_refused : (refusal_of l bytes room ≡ 0 → ⊥) → one_run ≡ stopped l (refusal_of l bytes room)
+    one_refused e = rw (one_record bytes size) (run_stops l bytes [] room (refusal_of l bytes room) refl e)
 
-    pub one-refusal : (outcomeOf oneRun).refusal ≡ refusalOf l bytes room
-    unfolding outcomeOf
-    one-refusal = begun-refusal l bytes room (omega arith) (omega arith)
+    pub one_refusal : (outcome_of one_run).refusal ≡ refusal_of l bytes room
+    unfolding outcome_of
+    one_refusal = begun_refusal l bytes room (omega arith) (omega arith)
 
-    pub one-ledger : refusalOf l bytes room ≡ 0 → (outcomeOf oneRun).ledger ≡ (acceptedOf l bytes).ledger
-    unfolding outcomeOf
-    one-ledger e = ap (λ (r : Run). r.ledger) (one-taken e)
+    pub one_ledger : refusal_of l bytes room ≡ 0 → (outcome_of one_run).ledger ≡ (accepted_of l bytes).ledger
+    unfolding outcome_of
+    one_ledger e = ap (λ (r : Run). r.ledger) (one_taken e)
 
-    pub one-work : refusalOf l bytes room ≡ 0 → (outcomeOf oneRun).work ≡ workOf l bytes
-    unfolding outcomeOf workOver
-    one-work e = rw (one-taken e) (omega arith)
+    pub one_work : refusal_of l bytes room ≡ 0 → (outcome_of one_run).work ≡ work_of l bytes
+    unfolding outcome_of work_over
+    one_work e = rw (one_taken e) (omega arith)
 
-    pub one_written : out_of oneRun out ≡ written_of l bytes out
+    pub one_written : out_of one_run out ≡ written_of l bytes out
     unfolding out_of outputs written_of
     one_written =
-        elim (ℕ_discrete (refusalOf l bytes room) 0) [
-          | yes e ↦ rw (one-taken e, append-nil, output-length (acceptedOf l bytes), e)
-          | no e ↦ rw (one-refused e) (sym (refused-writes-nothing l bytes out e))
+        elim (ℕ_discrete (refusal_of l bytes room) 0) [
+          | yes e ↦ rw (one_taken e, append-nil, output_length (accepted_of l bytes), e)
+          | no e ↦ rw (one_refused e) (sym (refused_writes_nothing l bytes out e))
         ]

@@ -2,9 +2,9 @@
 -- Runs, listings and offerings are read off it.
 use Rattle.std.specs.Prelude.{◌≡◌, Bool, cond, List, [], ◌∷◌, ◌++◌, ℕ, zero, suc, ◌+◌, ◌-◌, ◌*◌, ◌/◌, eqb, length, take, drop}
 use Rattle.numbers.specs.Lists.{added}
-use Rattle.record.specs.Fields.{recordBytes}
-use Rattle.ledger.specs.Step.{fresh, workOf}
-use Rattle.ledger.specs.Take.{take_of, outputRecord}
+use Rattle.record.specs.Fields.{record_bytes}
+use Rattle.ledger.specs.Step.{fresh, work_of}
+use Rattle.ledger.specs.Take.{take_of, output_record}
 use Rattle.ledger.specs.declared.book.Ledger.{Ledger}
 use Rattle.ledger.specs.declared.answer.Answer.{Answer}
 use Rattle.run.specs.declared.Outcome.{Outcome}
@@ -29,17 +29,17 @@ turns l [] = []
 turns l (offer ∷ rest) = turn_of l offer ∷ turns (turn_of l offer).answer.ledger rest
 
 -- The ledger after some turns.
-unfoldable pub ledgerAfter : Ledger → List Turn → Ledger
-ledgerAfter l [] = l
-ledgerAfter l (turn ∷ rest) = ledgerAfter turn.answer.ledger rest
+unfoldable pub ledger_after : Ledger → List Turn → Ledger
+ledger_after l [] = l
+ledger_after l (turn ∷ rest) = ledger_after turn.answer.ledger rest
 
-abbrev pub isAccepted : Turn → Bool
-isAccepted turn = eqb turn.answer.refusal 0
+abbrev pub is_accepted : Turn → Bool
+is_accepted turn = eqb turn.answer.refusal 0
 
 -- The accepted records, 'passing over refused ones'.
 unfoldable pub accepted : List Turn → List Turn
 accepted [] = []
-accepted (turn ∷ rest) = cond (isAccepted turn) (turn ∷ accepted rest) (accepted rest)
+accepted (turn ∷ rest) = cond (is_accepted turn) (turn ∷ accepted rest) (accepted rest)
 
 -- All of them are.
 abbrev pub AllAccepted : List Turn → Type 0
@@ -49,38 +49,38 @@ AllAccepted (turn ∷ rest) = (turn.answer.refusal ≡ 0) × AllAccepted rest
 -- 'It stops at the first record that is refused': the leading ones, which are accepted, and the refusal that ends them, 0 if none.
 unfoldable pub leading : List Turn → List Turn
 leading [] = []
-leading (turn ∷ rest) = cond (isAccepted turn) (turn ∷ leading rest) []
+leading (turn ∷ rest) = cond (is_accepted turn) (turn ∷ leading rest) []
 
 unfoldable pub ending : List Turn → ℕ
 ending [] = 0
-ending (turn ∷ rest) = cond (isAccepted turn) (ending rest) turn.answer.refusal
+ending (turn ∷ rest) = cond (is_accepted turn) (ending rest) turn.answer.refusal
 
 -- The output records of some turns, one after another.
 unfoldable pub outputs : List Turn → List ℕ
 outputs [] = []
-outputs (turn ∷ rest) = outputRecord turn.answer ++ outputs rest
+outputs (turn ∷ rest) = output_record turn.answer ++ outputs rest
 
 -- The decay work of some accepted records: that of each, on the ledger before it, added.
-unfoldable pub workOver : List Turn → ℕ
-workOver turns = added (λ (turn : Turn). workOf turn.before turn.bytes) turns
+unfoldable pub work_over : List Turn → ℕ
+work_over turns = added (λ (turn : Turn). work_of turn.before turn.bytes) turns
 
 -- The first k records of a file; the last may be short.
 unfoldable pub cut : ℕ → List ℕ → List (List ℕ)
 cut zero file = []
-cut (suc k) file = take recordBytes file ∷ cut k (drop recordBytes file)
+cut (suc k) file = take record_bytes file ∷ cut k (drop record_bytes file)
 
 -- How many records so many bytes begin.
-abbrev pub recordsBegun : (bytes : ℕ) → ℕ
-recordsBegun bytes = (bytes + (recordBytes - 1)) / recordBytes
+abbrev pub records_begun : (bytes : ℕ) → ℕ
+records_begun bytes = (bytes + (record_bytes - 1)) / record_bytes
 
 -- A file is records one after another; bytes left over that make no record stand as a last one, which the step refuses with 1.
-unfoldable pub recordsOf : List ℕ → List (List ℕ)
-recordsOf file = cut (recordsBegun (length file)) file
+unfoldable pub records_of : List ℕ → List (List ℕ)
+records_of file = cut (records_begun (length file)) file
 
 -- Records as offers: each has the room that those before it leave.
 unfoldable pub in_turn : List (List ℕ) → (room : ℕ) → List Offer
 in_turn [] room = []
-in_turn (bytes ∷ rest) room = record { bytes = bytes; room = room } ∷ in_turn rest (room - recordBytes)
+in_turn (bytes ∷ rest) room = record { bytes = bytes; room = room } ∷ in_turn rest (room - record_bytes)
 
 -- A whole run: the ledger after its leading records, these, and the refusal of the next one, 0 if none.
 pub record Run : Type 0 where
@@ -88,21 +88,21 @@ pub record Run : Type 0 where
   pub accepted : List Turn
   pub refusal : ℕ
 
-abbrev pub readOff : Ledger → List Turn → Run
-readOff l all = record { ledger = ledgerAfter l (leading all); accepted = leading all; refusal = ending all }
+abbrev pub read_off : Ledger → List Turn → Run
+read_off l all = record { ledger = ledger_after l (leading all); accepted = leading all; refusal = ending all }
 
 unfoldable pub run_of : Ledger → List (List ℕ) → (room : ℕ) → Run
-run_of l records room = readOff l (turns l (in_turn records room))
+run_of l records room = read_off l (turns l (in_turn records room))
 
 -- The output after a run: output record i starts at 48 × (i − 1), and whatever is past the last one keeps its value.
 unfoldable pub out_of : Run → List ℕ → List ℕ
 out_of r out = outputs r.accepted ++ drop (length (outputs r.accepted)) out
 
 -- What the entry answers of a run; its decay work is that of the accepted records, 'none for the others'.
-unfoldable pub outcomeOf : Run → Outcome
-outcomeOf r =
-    record { ledger = r.ledger; accepted = length r.accepted; refusal = r.refusal; work = workOver r.accepted }
+unfoldable pub outcome_of : Run → Outcome
+outcome_of r =
+    record { ledger = r.ledger; accepted = length r.accepted; refusal = r.refusal; work = work_over r.accepted }
 
 -- A file run from a fresh ledger, with room for every output record.
-unfoldable pub wholeRun : (file : List ℕ) → Run
-wholeRun file = run_of fresh (recordsOf file) (recordBytes * length (recordsOf file))
+unfoldable pub whole_run : (file : List ℕ) → Run
+whole_run file = run_of fresh (records_of file) (record_bytes * length (records_of file))

@@ -2,11 +2,11 @@
 // another, from any ledger.
 ghost use Rattle.std.specs.Prelude.{true, ◌≡◌, length, take};
 ghost use Rattle.numbers.specs.Eight.{eight};
-ghost use Rattle.record.specs.Fields.{recordBytes, kind_of, climateOf};
+ghost use Rattle.record.specs.Fields.{record_bytes, kind_of, climate_of};
 ghost use Rattle.carbon.specs.Carbon.{entry_at};
-ghost use Rattle.ledger.specs.Step.{releasedAt};
-ghost use Rattle.ledger.specs.Refusal.{sound, refusalOf};
-ghost use Rattle.run.specs.History.{recordsOf, run_of, outcomeOf, out_of};
+ghost use Rattle.ledger.specs.Step.{released_at};
+ghost use Rattle.ledger.specs.Refusal.{sound, refusal_of};
+ghost use Rattle.run.specs.History.{records_of, run_of, outcome_of, out_of};
 
 use ledger::{Ledger, are_sound};
 
@@ -26,8 +26,8 @@ struct End(u64, u8);
 
 // Answers the table entries of a run: those of its first record, which every later accepted record shares.
 fn run_entries(ledger: Ledger, records: &[u8]) -> [u32; 8]
-    ensures { refusalOf ledger (take recordBytes records.now) recordBytes ≡ 0
-        → result ≡ eight (entry_at (kind_of (take recordBytes records.now)) (climateOf (take recordBytes records.now))) }
+    ensures { refusal_of ledger (take record_bytes records.now) record_bytes ≡ 0
+        → result ≡ eight (entry_at (kind_of (take record_bytes records.now)) (climate_of (take record_bytes records.now))) }
 {
     if ledger.n > 0 {
         return carbon::entries(ledger.kind, ledger.climate);
@@ -39,7 +39,7 @@ fn run_entries(ledger: Ledger, records: &[u8]) -> [u32; 8]
 // and as before the run where no record was accepted. So the compiled loop of a run has nothing to carry for it.
 fn settled(ledger: Ledger, before: [u64; 8], accepted: u64) -> Ledger
     requires released_value { accepted ≡ 0 → ledger.released ≡ before }
-    requires ledger_value { (accepted ≡ 0 → ⊥) → (sound ledger ≡ true) × (ledger.released ≡ eight (releasedAt ledger)) }
+    requires ledger_value { (accepted ≡ 0 → ⊥) → (sound ledger ≡ true) × (ledger.released ≡ eight (released_at ledger)) }
     ensures { result ≡ ledger }
 {
     let year = ledger.year;
@@ -64,8 +64,8 @@ fn settled(ledger: Ledger, before: [u64; 8], accepted: u64) -> Ledger
 // Takes the records of a file one after another, writes the output record of each accepted one after the last, and stops at
 // the first that is refused; bytes left over that make no record are refused with 1. Also counts the decay work.
 pub fn run(ledger: Ledger, records: &[u8], out: &mut [u8]) -> Outcome
-    ensures value { result ≡ outcomeOf (run_of ledger (recordsOf records.now) (length out.old)) }
-    ensures out_after { out.new ≡ out_of (run_of ledger (recordsOf records.now) (length out.old)) out.old }
+    ensures value { result ≡ outcome_of (run_of ledger (records_of records.now) (length out.old)) }
+    ensures out_after { out.new ≡ out_of (run_of ledger (records_of records.now) (length out.old)) out.old }
 {
     let year = ledger.year;
     let good = are_sound(

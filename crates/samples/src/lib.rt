@@ -1,9 +1,9 @@
 // Masses from sorting samples: a total that was weighed is parted among the eight types by the fractions of some sorted samples.
 // It serves request a of document 02, and is called by the package whose operators weigh whole trucks and sort a few.
 ghost use Rattle.std.specs.Prelude.{true, ◌&&◌, ◌≡◌, ◌+◌, ◌-◌, ◌*◌, ◌/◌, ◌%◌, ◌≤◌, ◌<◌, eqb, length, get_or};
-ghost use Rattle.numbers.specs.Eight.{eight, sum_of, everyOf};
-ghost use Rattle.waste.specs.Waste.{massLimit};
-ghost use Rattle.samples.specs.Samples.{sampleBytes, wholeSample, mostSamples, rightNumber, fractionAt, addsUp, unsorted, sortedOf};
+ghost use Rattle.numbers.specs.Eight.{eight, sum_of, every_of};
+ghost use Rattle.waste.specs.Waste.{mass_limit};
+ghost use Rattle.samples.specs.Samples.{sample_bytes, whole_sample, most_samples, right_number, fraction_at, adds_up, unsorted, sorted_of};
 
 // The bytes of a sample.
 const BYTES: usize = 16;
@@ -44,7 +44,7 @@ fn refuse(refusal: u8) -> Sorted
 
 // Tells whether so many bytes are the samples that a year or a month has to have.
 fn is_right_number(kind: u8, bytes: usize) -> bool
-    ensures { result ≡ (rightNumber kind (bytes / sampleBytes) && eqb (bytes % sampleBytes) 0) }
+    ensures { result ≡ (right_number kind (bytes / sample_bytes) && eqb (bytes % sample_bytes) 0) }
 {
     let count = (bytes / BYTES) as u64;
     let year = (kind == waste::YEARLY) & numbers::is_between(LEAST_A_YEAR, count, MOST_A_YEAR);
@@ -54,10 +54,10 @@ fn is_right_number(kind: u8, bytes: usize) -> bool
 
 // Adds a sample to those before it, which all add up.
 fn add_sample(before: Added, samples: &[u8], n: usize) -> Added
-    requires n_lt_most_samples { (n < mostSamples) × (sampleBytes * n + sampleBytes ≤ length samples.now) }
-    requires fractions_value { (before.fractions ≡ eight (λ t. sum_of (λ m. fractionAt samples.now m t) n)) × (everyOf (addsUp samples.now) n ≡ true) }
-    ensures fractions_value_2 { result.fractions ≡ eight (λ t. sum_of (λ m. fractionAt samples.now m t) (n + 1)) }
-    ensures whole_value { result.whole ≡ addsUp samples.now n }
+    requires n_lt_most_samples { (n < most_samples) × (sample_bytes * n + sample_bytes ≤ length samples.now) }
+    requires fractions_value { (before.fractions ≡ eight (λ t. sum_of (λ m. fraction_at samples.now m t) n)) × (every_of (adds_up samples.now) n ≡ true) }
+    ensures fractions_value_2 { result.fractions ≡ eight (λ t. sum_of (λ m. fraction_at samples.now m t) (n + 1)) }
+    ensures whole_value { result.whole ≡ adds_up samples.now n }
 {
     let mut fractions = [0u32; 8];
     let mut sum = 0u32;
@@ -74,9 +74,9 @@ fn add_sample(before: Added, samples: &[u8], n: usize) -> Added
 
 // Adds so many samples, up to the first that does not add up.
 fn add_samples(samples: &[u8], count: usize) -> Added
-    requires { (count ≤ mostSamples) × (sampleBytes * count ≤ length samples.now) }
-    ensures whole_value { result.whole ≡ everyOf (addsUp samples.now) count }
-    ensures fractions_value { result.whole ≡ true → result.fractions ≡ eight (λ t. sum_of (λ n. fractionAt samples.now n t) count) }
+    requires { (count ≤ most_samples) × (sample_bytes * count ≤ length samples.now) }
+    ensures whole_value { result.whole ≡ every_of (adds_up samples.now) count }
+    ensures fractions_value { result.whole ≡ true → result.fractions ≡ eight (λ t. sum_of (λ n. fraction_at samples.now n t) count) }
 {
     let mut added = Added {
         fractions: [0; 8],
@@ -93,7 +93,7 @@ fn add_samples(samples: &[u8], count: usize) -> Added
 // Parts a total by the fractions of each type, which are parts of a whole: a type's mass is what is reached with it, rounded down, less
 // what was reached without it.
 fn part(total: u64, fractions: [u32; 8], whole: u64) -> [u32; 8]
-    requires { (total ≤ massLimit) × (0 < whole) × (whole ≤ wholeSample * mostSamples) × (sum_of (λ t. get_or fractions t 0) 8 ≤ whole) }
+    requires { (total ≤ mass_limit) × (0 < whole) × (whole ≤ whole_sample * most_samples) × (sum_of (λ t. get_or fractions t 0) 8 ≤ whole) }
     ensures { result ≡ eight (λ t. total * sum_of (λ u. get_or fractions u 0) (t + 1) / whole - total * sum_of (λ u. get_or fractions u 0) t / whole) }
 {
     let mut masses = [0u32; 8];
@@ -111,7 +111,7 @@ fn part(total: u64, fractions: [u32; 8], whole: u64) -> [u32; 8]
 // Answers the masses of the eight types, or refuses: 14 the total is too large, 15 the kind or the number of samples is not right, 16
 // a sample does not add up.
 pub fn masses(kind: u8, total: u64, samples: &[u8]) -> Sorted
-    ensures { result ≡ sortedOf kind total samples.now }
+    ensures { result ≡ sorted_of kind total samples.now }
 {
     if total > waste::MASS_LIMIT {
         return refuse(14);

@@ -5,24 +5,24 @@ use Prim.Native.Nat.{ℕ, suc, ◌+◌}
 use lib.ListN.{take, drop}
 use lib.Seq.{drop-drop}
 use Rattle.numbers.specs.Bytes.{number_at}
-use Rattle.numbers.proofs.Bytes.{number-drop}
-use Rattle.record.specs.Fields.{recordBytes}
-use Rattle.tunisia.specs.Walk.{walkedOn, walkedOver, Ready, AllReady}
+use Rattle.numbers.proofs.Bytes.{number_drop}
+use Rattle.record.specs.Fields.{record_bytes}
+use Rattle.tunisia.specs.Walk.{walked_on, walked_over, Ready, AllReady}
 use Rattle.tunisia.specs.declared.year.Walked.{Walked}
 
 module _ (first last k at : ℕ) (w : Walked) (file out : List ℕ) where
   abbrev next : Walked
-  next = walkedOn first last w (take recordBytes (drop at file)) (number_at 8 out (at + 8))
+  next = walked_on first last w (take record_bytes (drop at file)) (number_at 8 out (at + 8))
 
-  pub over-next : walkedOver first last (suc k) w (drop at file) (drop at out) ≡ walkedOver first last k next (drop (at + recordBytes) file) (drop (at + recordBytes) out)
-  unfolding walkedOver
-  over-next = rw (number-drop 8 at 8 out, drop-drop recordBytes at file, drop-drop recordBytes at out)
+  pub over_next : walked_over first last (suc k) w (drop at file) (drop at out) ≡ walked_over first last k next (drop (at + record_bytes) file) (drop (at + record_bytes) out)
+  unfolding walked_over
+  over_next = rw (number_drop 8 at 8 out, drop-drop record_bytes at file, drop-drop record_bytes at out)
 
-  pub ready-next : AllReady first last (suc k) w (drop at file) (drop at out)
-      → Ready w (take recordBytes (drop at file)) × AllReady first last k next (drop (at + recordBytes) file) (drop (at + recordBytes) out)
+  pub ready_next : AllReady first last (suc k) w (drop at file) (drop at out)
+      → Ready w (take record_bytes (drop at file)) × AllReady first last k next (drop (at + record_bytes) file) (drop (at + record_bytes) out)
   unfolding AllReady
-  ready-next h = (h.0, rw (← drop-drop recordBytes at file, ← drop-drop recordBytes at out, number-drop 8 at 8 out) h.1)
+  ready_next h = (h.0, rw (← drop-drop record_bytes at file, ← drop-drop record_bytes at out, number_drop 8 at 8 out) h.1)
 
-pub over_none : (first last : ℕ) (w : Walked) (file out : List ℕ) → walkedOver first last 0 w file out ≡ w
-unfolding walkedOver
+pub over_none : (first last : ℕ) (w : Walked) (file out : List ℕ) → walked_over first last 0 w file out ≡ w
+unfolding walked_over
 over_none first last w file out = refl

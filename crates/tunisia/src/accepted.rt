@@ -1,13 +1,13 @@
 // The accepted years of a file: run by stretches of 32 records, and walked over.
 ghost use Rattle.std.specs.Prelude.{◌≡◌, ◌*◌, ◌≤◌, ◌<◌, length, take};
-ghost use Rattle.waste.specs.Kind.{isMonthly};
-ghost use Rattle.record.specs.Fields.{recordBytes};
-ghost use Rattle.carbon.specs.Carbon.{mostRecords};
+ghost use Rattle.waste.specs.Kind.{is_monthly};
+ghost use Rattle.record.specs.Fields.{record_bytes};
+ghost use Rattle.carbon.specs.Carbon.{most_records};
 ghost use Rattle.ledger.specs.Step.{fresh};
-ghost use Rattle.ledger.specs.Refusal.{refusalOf};
-ghost use Rattle.run.specs.History.{wholeRun};
-ghost use Rattle.tunisia.specs.Years.{acceptedYears, refusalAfter};
-ghost use Rattle.tunisia.specs.Walk.{noneWalked, takenOver, SumsFit, asYearly};
+ghost use Rattle.ledger.specs.Refusal.{refusal_of};
+ghost use Rattle.run.specs.History.{whole_run};
+ghost use Rattle.tunisia.specs.Years.{accepted_years, refusal_after};
+ghost use Rattle.tunisia.specs.Walk.{none_walked, taken_over, SumsFit, as_yearly};
 
 use crate::year::{Walked, walk_over};
 use ledger::Ledger;
@@ -24,7 +24,7 @@ pub struct YearsTaken {
 // Answers the refusal of a record in this mode, given its refusal in a run with room for its output, and its kind. The tests before 6
 // have the numbers up to 5.
 fn as_yearly(refusal: u8, kind: u8) -> u8
-    ensures { result ≡ asYearly refusal (isMonthly kind) }
+    ensures { result ≡ as_yearly refusal (is_monthly kind) }
 {
     if (kind == waste::MONTHLY) & ((refusal == 0) | (refusal > 5)) {
         return 23;
@@ -34,7 +34,7 @@ fn as_yearly(refusal: u8, kind: u8) -> u8
 
 // Answers that no year was walked over.
 fn none_walked() -> Walked
-    ensures { result ≡ noneWalked }
+    ensures { result ≡ none_walked }
 {
     let sums = Sums {
         reference: 0,
@@ -51,8 +51,8 @@ fn none_walked() -> Walked
 
 // Runs a file from a fresh ledger, stretch by stretch, and walks over the accepted records; the refusal is the run's.
 fn run_years(file: &[u8], first: u64, last: u64) -> YearsTaken
-    ensures value { result ≡ takenOver first last (wholeRun file.now).accepted (wholeRun file.now).refusal }
-    ensures sums_fit { (SumsFit result.sums) × (recordBytes * result.years ≤ length file.now) × (result.years ≤ mostRecords) }
+    ensures value { result ≡ taken_over first last (whole_run file.now).accepted (whole_run file.now).refusal }
+    ensures sums_fit { (SumsFit result.sums) × (record_bytes * result.years ≤ length file.now) × (result.years ≤ most_records) }
 {
     let mut out = [0u8; stretches::STRETCH];
     let mut ledger = Ledger::fresh();
@@ -80,7 +80,7 @@ fn run_years(file: &[u8], first: u64, last: u64) -> YearsTaken
 // Answers the refusal of the first record of a file in a run from a fresh ledger, 0 if none.
 fn first_refusal(file: &[u8]) -> u8
     requires { 0 < length file.now }
-    ensures { result ≡ refusalOf fresh (take recordBytes file.now) recordBytes }
+    ensures { result ≡ refusal_of fresh (take record_bytes file.now) record_bytes }
 {
     let end = if file.len() < record::BYTES {
         file.len()
@@ -92,8 +92,8 @@ fn first_refusal(file: &[u8]) -> u8
 
 // Answers the accepted years of a file, none where its first record is monthly, and what those of the stretch add up to.
 pub(crate) fn accepted_years(file: &[u8], first: u64, last: u64) -> YearsTaken
-    ensures value { result ≡ takenOver first last (acceptedYears file.now) (refusalAfter file.now) }
-    ensures sums_fit { (SumsFit result.sums) × (result.years ≤ mostRecords) }
+    ensures value { result ≡ taken_over first last (accepted_years file.now) (refusal_after file.now) }
+    ensures sums_fit { (SumsFit result.sums) × (result.years ≤ most_records) }
 {
     if record::kind(file) == waste::MONTHLY {
         let none = none_walked();

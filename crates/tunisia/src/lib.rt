@@ -5,7 +5,7 @@ mod year;
 
 ghost use Rattle.std.specs.Prelude.{◌≡◌, ◌*◌, ◌^◌, ◌≤◌};
 ghost use Rattle.std.specs.Int.Signed.{mag};
-ghost use Rattle.tunisia.specs.Reduction.{reductionOf};
+ghost use Rattle.tunisia.specs.Reduction.{reduction_of};
 
 use accepted::accepted_years;
 use reductions::{all_grams, less_all, stretch_refusal};
@@ -32,7 +32,7 @@ pub fn reduction_over(
     electricity: &[u64],
     fuel: &[u64],
 ) -> Reduction
-    ensures value { result ≡ reductionOf file.now first last electricity.now fuel.now }
+    ensures value { result ≡ reduction_of file.now first last electricity.now fuel.now }
     ensures reduction_bound { mag result.reduction ≤ 72 * 10 ^ 17 }
 {
     let accepted = accepted_years(file, first, last);

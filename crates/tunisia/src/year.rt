@@ -1,9 +1,9 @@
 // One year more of a file.
 ghost use Rattle.std.specs.Prelude.{◌≡◌, ℕ, ◌+◌, ◌*◌, ◌≤◌, ◌<◌, length, get_or};
 ghost use Rattle.numbers.specs.Eight.{eight};
-ghost use Rattle.record.specs.Fields.{recordBytes, depositOf};
-ghost use Rattle.carbon.specs.Carbon.{mostBrought};
-ghost use Rattle.tunisia.specs.Walk.{walkedOn, walkedOver, Ready, AllReady};
+ghost use Rattle.record.specs.Fields.{record_bytes, deposit_of};
+ghost use Rattle.carbon.specs.Carbon.{most_brought};
+ghost use Rattle.tunisia.specs.Walk.{walked_on, walked_over, Ready, AllReady};
 
 use record::Factors;
 use reductions::Sums;
@@ -20,8 +20,8 @@ pub struct Walked {
 
 // Answers T of the eight types with the deposits of a record. The ledger has them too, but only after the last record of a stretch.
 fn deposited(brought: [u64; 8], bytes: &[u8]) -> [u64; 8]
-    requires { (t : ℕ) → (t < 8 → get_or brought t 0 + depositOf bytes.now t ≤ mostBrought) }
-    ensures { result ≡ eight (λ t. get_or brought t 0 + depositOf bytes.now t) }
+    requires { (t : ℕ) → (t < 8 → get_or brought t 0 + deposit_of bytes.now t ≤ most_brought) }
+    ensures { result ≡ eight (λ t. get_or brought t 0 + deposit_of bytes.now t) }
 {
     let mut all = [0u64; 8];
     for t in 0..8 {
@@ -33,7 +33,7 @@ fn deposited(brought: [u64; 8], bytes: &[u8]) -> [u64; 8]
 // Answers the years with one record more, whose x0 is known.
 fn walk_on(walked: Walked, bytes: &[u8], x0: u64, first: u64, last: u64) -> Walked
     requires { Ready walked bytes.now }
-    ensures { result ≡ walkedOn first last walked bytes.now x0 }
+    ensures { result ≡ walked_on first last walked bytes.now x0 }
 {
     let brought = walked.brought;
     let before = walked.sums;
@@ -65,9 +65,9 @@ pub(crate) fn walk_over(
     first: u64,
     last: u64,
 ) -> Walked
-    requires count_in_bounds { (recordBytes * count ≤ length file.now) × (recordBytes * count ≤ length out.now) }
+    requires count_in_bounds { (record_bytes * count ≤ length file.now) × (record_bytes * count ≤ length out.now) }
     requires all_ready { AllReady first last count walked file.now out.now }
-    ensures { result ≡ walkedOver first last count walked file.now out.now }
+    ensures { result ≡ walked_over first last count walked file.now out.now }
 {
     let mut walked = walked;
     let mut at: usize = 0;

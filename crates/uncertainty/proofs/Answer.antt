@@ -8,66 +8,66 @@ use borrow.Author.Tests.{ne_eqb, le-leb, not-false}
 use lib.Dec.{eqb, lit≤}
 use Rattle.numbers.specs.Fault.{Fault, first_of}
 use Rattle.numbers.proofs.Fault.{clear}
-use Rattle.uncertainty.specs.Uncertainty.{arePercentages, squaresOf, factorFor, areCodes, chosen, chosenBy, bothEntered, percentageFaults, codeFaults, noFactor, unless, byPercentages, byCodes}
+use Rattle.uncertainty.specs.Uncertainty.{are_percentages, squares_of, factor_for, are_codes, chosen, chosen_by, both_entered, percentage_faults, code_faults, no_factor, unless, by_percentages, by_codes}
 use Rattle.uncertainty.specs.declared.Uncertainties.{Uncertainties}
 use Rattle.uncertainty.specs.declared.ModelFactor.{ModelFactor}
 
 module _ (u : Uncertainties) where
-  pub percentage-over : arePercentages u ≡ false → noFactor 18 ≡ byPercentages u
-  unfolding byPercentages percentageFaults
-  percentage-over t = simp t
+  pub percentage_over : are_percentages u ≡ false → no_factor 18 ≡ by_percentages u
+  unfolding by_percentages percentage_faults
+  percentage_over t = simp t
 
-  pub factor-found : arePercentages u ≡ true → {factor : ℕ} → factor ≡ factorFor (squaresOf u)
-      → ◌≡◌ {A = ModelFactor} (record { refusal = 0; factor = factor }) (byPercentages u)
-  unfolding byPercentages percentageFaults
-  factor-found t is = simp (t, is)
+  pub factor_found : are_percentages u ≡ true → {factor : ℕ} → factor ≡ factor_for (squares_of u)
+      → ◌≡◌ {A = ModelFactor} (record { refusal = 0; factor = factor }) (by_percentages u)
+  unfolding by_percentages percentage_faults
+  factor_found t is = simp (t, is)
 
-  pub entered-over : bothEntered u ≡ false → noFactor 18 ≡ byCodes u
-  unfolding byCodes codeFaults
-  entered-over t = simp t
+  pub entered_over : both_entered u ≡ false → no_factor 18 ≡ by_codes u
+  unfolding by_codes code_faults
+  entered_over t = simp t
 
-  module _ (t : bothEntered u ≡ true) where
-    pub not-coded : areCodes u ≡ false → noFactor 19 ≡ byCodes u
-    unfolding byCodes codeFaults
-    not-coded s = simp (t, s)
+  module _ (t : both_entered u ≡ true) where
+    pub not_coded : are_codes u ≡ false → no_factor 19 ≡ by_codes u
+    unfolding by_codes code_faults
+    not_coded s = simp (t, s)
 
-    pub as-chosen : areCodes u ≡ true → byPercentages (chosenBy u) ≡ byCodes u
-    unfolding byCodes codeFaults
-    as-chosen s = simp (t, s)
+    pub as_chosen : are_codes u ≡ true → by_percentages (chosen_by u) ≡ by_codes u
+    unfolding by_codes code_faults
+    as_chosen s = simp (t, s)
 
 -- An answer without refusal is one without fault.
-none-there : (faults : List Fault) (answer : ModelFactor) → (unless faults answer).refusal ≡ 0 → first_of faults ≡ 0
-none-there faults answer = by_number (first_of faults)
+none_there : (faults : List Fault) (answer : ModelFactor) → (unless faults answer).refusal ≡ 0 → first_of faults ≡ 0
+none_there faults answer = by_number (first_of faults)
   where
-    by_number : (k : ℕ) → (cond (eqb k 0) answer (noFactor k)).refusal ≡ 0 → k ≡ 0
+    by_number : (k : ℕ) → (cond (eqb k 0) answer (no_factor k)).refusal ≡ 0 → k ≡ 0
     by_number zero e = refl
     by_number (suc k) e = rw (ne_eqb (suc k) 0 (λ z. omega arith)) at e
 
 module _ (u : Uncertainties) where
-  pub when-entered : (byPercentages u).refusal ≡ 0 → arePercentages u ≡ true
-  unfolding byPercentages percentageFaults
-  when-entered z = not-false _ (clear 18 (percentageFaults u) refl (none-there (percentageFaults u) _ z))
+  pub when_entered : (by_percentages u).refusal ≡ 0 → are_percentages u ≡ true
+  unfolding by_percentages percentage_faults
+  when_entered z = not-false _ (clear 18 (percentage_faults u) refl (none_there (percentage_faults u) _ z))
 
-  pub when-coded : (byCodes u).refusal ≡ 0 → (bothEntered u ≡ true) × (areCodes u ≡ true)
-  unfolding byCodes codeFaults
-  when-coded z =
-      let none = none-there (codeFaults u) (byPercentages (chosenBy u)) z in
-      (not-false _ (clear 18 (codeFaults u) refl none), not-false _ (clear 19 (codeFaults u) refl none))
+  pub when_coded : (by_codes u).refusal ≡ 0 → (both_entered u ≡ true) × (are_codes u ≡ true)
+  unfolding by_codes code_faults
+  when_coded z =
+      let none = none_there (code_faults u) (by_percentages (chosen_by u)) z in
+      (not-false _ (clear 18 (code_faults u) refl none), not-false _ (clear 19 (code_faults u) refl none))
 
 -- Chosen values are percentages, so that a choice is refused for its codes alone.
 small : (code : ℕ) {lower higher : ℕ} → lower ≤ 100 → higher ≤ 100 → chosen code lower higher ≤ 100
-small code {lower} {higher} low high = by-test (eqb code 1)
+small code {lower} {higher} low high = by_test (eqb code 1)
   where
-    by-test : (b : Bool) → cond b lower higher ≤ 100
-    by-test true = low
-    by-test false = high
+    by_test : (b : Bool) → cond b lower higher ≤ 100
+    by_test true = low
+    by_test false = high
 
-pub all-entered : (u : Uncertainties) → bothEntered u ≡ true → u.c ≤ 100 → u.d ≤ 100 → u.e ≤ 100 → u.g ≤ 100 → arePercentages u ≡ true
-unfolding arePercentages
-all-entered u t hc hd he hg = simp (t, le-leb u.c 100 hc, le-leb u.d 100 hd, le-leb u.e 100 he, le-leb u.g 100 hg)
+pub all_entered : (u : Uncertainties) → both_entered u ≡ true → u.c ≤ 100 → u.d ≤ 100 → u.e ≤ 100 → u.g ≤ 100 → are_percentages u ≡ true
+unfolding are_percentages
+all_entered u t hc hd he hg = simp (t, le-leb u.c 100 hc, le-leb u.d 100 hd, le-leb u.e 100 he, le-leb u.g 100 hg)
 
-pub chosen-entered : (u : Uncertainties) → bothEntered u ≡ true → arePercentages (chosenBy u) ≡ true
-unfolding chosenBy
-chosen-entered u t =
-    all-entered (chosenBy u) t (small u.c (lit≤ tt) (lit≤ tt)) (small u.d (lit≤ tt) (lit≤ tt))
+pub chosen_entered : (u : Uncertainties) → both_entered u ≡ true → are_percentages (chosen_by u) ≡ true
+unfolding chosen_by
+chosen_entered u t =
+    all_entered (chosen_by u) t (small u.c (lit≤ tt) (lit≤ tt)) (small u.d (lit≤ tt) (lit≤ tt))
     (small u.e (lit≤ tt) (lit≤ tt)) (small u.g (lit≤ tt) (lit≤ tt))

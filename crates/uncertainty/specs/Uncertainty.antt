@@ -10,33 +10,33 @@ abbrev pub entering : (a b c d e g : ℕ) → Uncertainties
 entering a b c d e g = record { a = a; b = b; c = c; d = d; e = e; g = g }
 
 -- 100 percent of each.
-abbrev pub allFull : Uncertainties
-allFull = entering 100 100 100 100 100 100
+abbrev pub all_full : Uncertainties
+all_full = entering 100 100 100 100 100 100
 
 -- Each of six is at most the same of six others.
 pub record AtMost (u u' : Uncertainties) : Type 0 where
-  pub most-a : u.a ≤ u'.a
-  pub most-b : u.b ≤ u'.b
-  pub most-c : u.c ≤ u'.c
-  pub most-d : u.d ≤ u'.d
-  pub most-e : u.e ≤ u'.e
-  pub most-g : u.g ≤ u'.g
+  pub most_a : u.a ≤ u'.a
+  pub most_b : u.b ≤ u'.b
+  pub most_c : u.c ≤ u'.c
+  pub most_d : u.d ≤ u'.d
+  pub most_e : u.e ≤ u'.e
+  pub most_g : u.g ≤ u'.g
 
 -- 'six whole percentages a, b, c, d, e, g, each 0 to 100'
-abbrev pub isPercentage : ℕ → Bool
-isPercentage x = leb x 100
+abbrev pub is_percentage : ℕ → Bool
+is_percentage x = leb x 100
 
-unfoldable pub arePercentages : Uncertainties → Bool
-arePercentages u =
-    isPercentage u.a && isPercentage u.b && isPercentage u.c && isPercentage u.d && isPercentage u.e && isPercentage u.g
+unfoldable pub are_percentages : Uncertainties → Bool
+are_percentages u =
+    is_percentage u.a && is_percentage u.b && is_percentage u.c && is_percentage u.d && is_percentage u.e && is_percentage u.g
 
 -- 'let S be the sum of their squares'
-unfoldable pub squaresOf : Uncertainties → ℕ
-squaresOf u = u.a * u.a + u.b * u.b + u.c * u.c + u.d * u.d + u.e * u.e + u.g * u.g
+unfoldable pub squares_of : Uncertainties → ℕ
+squares_of u = u.a * u.a + u.b * u.b + u.c * u.c + u.d * u.d + u.e * u.e + u.g * u.g
 
 -- S is at most six times the square of 100.
-abbrev pub mostSquares : ℕ
-mostSquares = 60000
+abbrev pub most_squares : ℕ
+most_squares = 60000
 
 -- 'p × p × S ≤ (10000 − 100p)²'; the difference is a true one, as p is at most 100.
 unfoldable pub allows : (S p : ℕ) → Bool
@@ -48,47 +48,47 @@ greatest test zero = 0
 greatest test (suc k) = cond (test (suc k)) (suc k) (greatest test k)
 
 -- 'The factor is the greatest whole percentage p up to 100 with' that.
-unfoldable pub factorFor : (S : ℕ) → ℕ
-factorFor S = greatest (allows S) 100
+unfoldable pub factor_for : (S : ℕ) → ℕ
+factor_for S = greatest (allows S) 100
 
 -- 'Also offer a form in which c, d, e and g are chosen [..]: code 1 takes the lower value, 2 the higher,
 abbrev pub is_code : ℕ → Bool
 is_code code = eqb code 1 || eqb code 2
 
-unfoldable pub areCodes : Uncertainties → Bool
-areCodes u = is_code u.c && is_code u.d && is_code u.e && is_code u.g
+unfoldable pub are_codes : Uncertainties → Bool
+are_codes u = is_code u.c && is_code u.d && is_code u.e && is_code u.g
 
 abbrev pub chosen : (code lower higher : ℕ) → ℕ
 chosen code lower higher = cond (eqb code 1) lower higher
 
 -- from c 5 or 15, d 0 or 5, e 0 or 50, g 5 or 20;
-unfoldable pub chosenBy : Uncertainties → Uncertainties
-chosenBy u = entering u.a u.b (chosen u.c 5 15) (chosen u.d 0 5) (chosen u.e 0 50) (chosen u.g 5 20)
+unfoldable pub chosen_by : Uncertainties → Uncertainties
+chosen_by u = entering u.a u.b (chosen u.c 5 15) (chosen u.d 0 5) (chosen u.e 0 50) (chosen u.g 5 20)
 
 -- a and b are entered as percentages.'
-abbrev pub bothEntered : Uncertainties → Bool
-bothEntered u = isPercentage u.a && isPercentage u.b
+abbrev pub both_entered : Uncertainties → Bool
+both_entered u = is_percentage u.a && is_percentage u.b
 
 -- 'Refusals: 18 an entered percentage over 100, 19 a code other than 1 and 2, in that order',
-unfoldable pub percentageFaults : Uncertainties → List Fault
-percentageFaults u = 18 when not (arePercentages u) ∷ []
+unfoldable pub percentage_faults : Uncertainties → List Fault
+percentage_faults u = 18 when not (are_percentages u) ∷ []
 
-unfoldable pub codeFaults : Uncertainties → List Fault
-codeFaults u =
-    18 when not (bothEntered u)
-    ∷ 19 when not (areCodes u)
+unfoldable pub code_faults : Uncertainties → List Fault
+code_faults u =
+    18 when not (both_entered u)
+    ∷ 19 when not (are_codes u)
     ∷ []
 
 -- 'with factor 0'.
-abbrev pub noFactor : (refusal : ℕ) → ModelFactor
-noFactor refusal = record { refusal = refusal; factor = 0 }
+abbrev pub no_factor : (refusal : ℕ) → ModelFactor
+no_factor refusal = record { refusal = refusal; factor = 0 }
 
 -- The answer where there is no fault, and else its refusal.
 abbrev pub unless : List Fault → ModelFactor → ModelFactor
-unless faults answer = cond (eqb (first_of faults) 0) answer (noFactor (first_of faults))
+unless faults answer = cond (eqb (first_of faults) 0) answer (no_factor (first_of faults))
 
-unfoldable pub byPercentages : Uncertainties → ModelFactor
-byPercentages u = unless (percentageFaults u) (record { refusal = 0; factor = factorFor (squaresOf u) })
+unfoldable pub by_percentages : Uncertainties → ModelFactor
+by_percentages u = unless (percentage_faults u) (record { refusal = 0; factor = factor_for (squares_of u) })
 
-unfoldable pub byCodes : Uncertainties → ModelFactor
-byCodes u = unless (codeFaults u) (byPercentages (chosenBy u))
+unfoldable pub by_codes : Uncertainties → ModelFactor
+by_codes u = unless (code_faults u) (by_percentages (chosen_by u))

@@ -1,7 +1,7 @@
 // The model correction factor worked out from uncertainties: option 2 of source 000, its equations (3) and (4).
 // It serves request d of document 02, and is called by the package whose users choose that option.
 ghost use Rattle.std.specs.Prelude.{◌≡◌, ◌*◌, ◌^◌, ◌≤◌, ◌<◌};
-ghost use Rattle.uncertainty.specs.Uncertainty.{isPercentage, arePercentages, squaresOf, mostSquares, allows, factorFor, is_code, areCodes, chosen, chosenBy, noFactor, byPercentages, byCodes};
+ghost use Rattle.uncertainty.specs.Uncertainty.{is_percentage, are_percentages, squares_of, most_squares, allows, factor_for, is_code, are_codes, chosen, chosen_by, no_factor, by_percentages, by_codes};
 
 // The most that a percentage can be, an uncertainty's as well as the factor's.
 const FULL: u8 = 100;
@@ -27,14 +27,14 @@ pub struct ModelFactor {
 
 // Answers a refusal.
 fn refuse(refusal: u8) -> ModelFactor
-    ensures { result ≡ noFactor refusal }
+    ensures { result ≡ no_factor refusal }
 {
     ModelFactor { refusal, factor: 0 }
 }
 
 // Tells whether a number is a percentage.
 fn is_percentage(x: u8) -> bool
-    ensures { result ≡ isPercentage x }
+    ensures { result ≡ is_percentage x }
 {
     x <= FULL
 }
@@ -62,7 +62,7 @@ fn square(x: u8) -> u32
 
 // Tells whether the sum of squares allows a factor.
 fn is_allowed(squares: u32, factor: u32) -> bool
-    requires { (squares ≤ mostSquares) × (factor ≤ 100) }
+    requires { (squares ≤ most_squares) × (factor ≤ 100) }
     ensures { result ≡ allows squares factor }
 {
     let rest = 10000 - 100 * factor;
@@ -71,8 +71,8 @@ fn is_allowed(squares: u32, factor: u32) -> bool
 
 // Answers the greatest factor that the sum of squares allows.
 fn greatest_factor(squares: u32) -> u8
-    requires { squares ≤ mostSquares }
-    ensures { result ≡ factorFor squares }
+    requires { squares ≤ most_squares }
+    ensures { result ≡ factor_for squares }
 {
     let mut factor = FULL as u32;
     while !is_allowed(squares, factor) {
@@ -84,7 +84,7 @@ fn greatest_factor(squares: u32) -> u8
 impl Uncertainties {
     // Tells whether all six are percentages.
     fn are_percentages(self) -> bool
-        ensures { result ≡ arePercentages self }
+        ensures { result ≡ are_percentages self }
     {
         is_percentage(self.a)
             & is_percentage(self.b)
@@ -96,14 +96,14 @@ impl Uncertainties {
 
     // Tells whether c, d, e and g are codes.
     fn are_codes(self) -> bool
-        ensures { result ≡ areCodes self }
+        ensures { result ≡ are_codes self }
     {
         is_code(self.c) & is_code(self.d) & is_code(self.e) & is_code(self.g)
     }
 
     // Answers the percentages that the codes of c, d, e and g choose.
     fn chosen_values(self) -> Uncertainties
-        ensures { result ≡ chosenBy self }
+        ensures { result ≡ chosen_by self }
     {
         Uncertainties {
             a: self.a,
@@ -117,7 +117,7 @@ impl Uncertainties {
 
     // Answers the sum of the squares.
     fn squares(self) -> u32
-        ensures { result ≡ squaresOf self }
+        ensures { result ≡ squares_of self }
     {
         square(self.a)
             + square(self.b)
@@ -129,7 +129,7 @@ impl Uncertainties {
 
     // Answers the factor for six percentages, or refuses: 18 one of them is over 100.
     pub fn by_percentages(self) -> ModelFactor
-        ensures { result ≡ byPercentages self }
+        ensures { result ≡ by_percentages self }
     {
         if !self.are_percentages() {
             return refuse(18);
@@ -143,7 +143,7 @@ impl Uncertainties {
     // Answers the factor for percentages a and b and the values that four codes choose, or refuses: 18 a or b is over 100, 19 a code
     // is not 1 or 2.
     pub fn by_codes(self) -> ModelFactor
-        ensures { result ≡ byCodes self }
+        ensures { result ≡ by_codes self }
     {
         if !(is_percentage(self.a) & is_percentage(self.b)) {
             return refuse(18);

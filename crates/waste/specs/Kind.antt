@@ -7,11 +7,11 @@ yearly = 1
 abbrev pub monthly : ℕ
 monthly = 2
 
-abbrev pub isKind : ℕ → Bool
-isKind kind = eqb kind yearly || eqb kind monthly
+abbrev pub is_kind : ℕ → Bool
+is_kind kind = eqb kind yearly || eqb kind monthly
 
-abbrev pub isYearly : ℕ → Bool
-isYearly kind = eqb kind yearly
+abbrev pub is_yearly : ℕ → Bool
+is_yearly kind = eqb kind yearly
 
-abbrev pub isMonthly : ℕ → Bool
-isMonthly kind = eqb kind monthly
+abbrev pub is_monthly : ℕ → Bool
+is_monthly kind = eqb kind monthly

@@ -8,54 +8,54 @@ abbrev pub numbered : List ℕ → ℕ → ℕ
 numbered xs k = get_or (0 ∷ xs) k 0
 
 -- Request f: DOC of sludge with m percent of organic dry matter, rounded down; m of 0 keeps the default.
-abbrev pub domesticOf : (m : ℕ) → ℕ
-domesticOf m = cond (eqb m 0) 500 (50 * m)
+abbrev pub domestic_of : (m : ℕ) → ℕ
+domestic_of m = cond (eqb m 0) 500 (50 * m)
 
-abbrev pub industrialOf : (m : ℕ) → ℕ
-industrialOf m = cond (eqb m 0) 900 (900 * m / 35)
+abbrev pub industrial_of : (m : ℕ) → ℕ
+industrial_of m = cond (eqb m 0) 900 (900 * m / 35)
 
 -- DOC of types 1 to 8, in hundredths of a percent of wet weight; m is that of the type asked for.
 abbrev pub carbons : (m : ℕ) → List ℕ
-carbons m = 4300 ∷ 4000 ∷ 1500 ∷ 2400 ∷ 2000 ∷ 0 ∷ domesticOf m ∷ industrialOf m ∷ []
+carbons m = 4300 ∷ 4000 ∷ 1500 ∷ 2400 ∷ 2000 ∷ 0 ∷ domestic_of m ∷ industrial_of m ∷ []
 
-unfoldable pub carbonOf : (waste m : ℕ) → ℕ
-carbonOf waste m = numbered (carbons m) waste
+unfoldable pub carbon_of : (waste m : ℕ) → ℕ
+carbon_of waste m = numbered (carbons m) waste
 
 -- m is a percentage.
-abbrev pub mostDry : ℕ
-mostDry = 100
+abbrev pub most_dry : ℕ
+most_dry = 100
 
 -- The most that DOC of a type can be: 5000 and 2571 for types 7 and 8.
-abbrev pub mostCarbonOf : (waste : ℕ) → ℕ
-mostCarbonOf waste = carbonOf waste mostDry
+abbrev pub most_carbon_of : (waste : ℕ) → ℕ
+most_carbon_of waste = carbon_of waste most_dry
 
 -- No type has more than dry domestic sludge.
-abbrev pub mostCarbon : ℕ
-mostCarbon = 5000
+abbrev pub most_carbon : ℕ
+most_carbon = 5000
 
 -- The most of one type that a record or a cell can bring, and the largest total that samples part, in kilograms.
-abbrev pub massLimit : ℕ
-massLimit = 10 ^ 9
+abbrev pub mass_limit : ℕ
+mass_limit = 10 ^ 9
 
 -- The climates by code: 1 boreal or temperate dry, 2 boreal or temperate wet, 3 tropical dry, 4 tropical wet.
 abbrev pub climates : ℕ
 climates = 4
 
-abbrev pub isClimate : ℕ → Bool
-isClimate climate = between 1 climate climates
+abbrev pub is_climate : ℕ → Bool
+is_climate climate = between 1 climate climates
 
 -- Yearly rates in thousandths, by climate code.
-abbrev pub groupA : List ℕ
-groupA = 40 ∷ 60 ∷ 45 ∷ 70 ∷ []
+abbrev pub group_a : List ℕ
+group_a = 40 ∷ 60 ∷ 45 ∷ 70 ∷ []
 
-abbrev pub groupB : List ℕ
-groupB = 20 ∷ 30 ∷ 25 ∷ 35 ∷ []
+abbrev pub group_b : List ℕ
+group_b = 20 ∷ 30 ∷ 25 ∷ 35 ∷ []
 
-abbrev pub groupC : List ℕ
-groupC = 50 ∷ 100 ∷ 65 ∷ 170 ∷ []
+abbrev pub group_c : List ℕ
+group_c = 50 ∷ 100 ∷ 65 ∷ 170 ∷ []
 
-abbrev pub groupD : List ℕ
-groupD = 60 ∷ 185 ∷ 85 ∷ 400 ∷ []
+abbrev pub group_d : List ℕ
+group_d = 60 ∷ 185 ∷ 85 ∷ 400 ∷ []
 
 -- Pulp and paper industry sludge: 30 in every climate.
 abbrev pub alike : List ℕ
@@ -67,26 +67,26 @@ none = replicate climates 0
 
 -- The rate group of types 1 to 8.
 abbrev pub group_of : ℕ → List ℕ
-group_of waste = get_or (none ∷ groupB ∷ groupA ∷ groupD ∷ groupA ∷ groupC ∷ none ∷ groupD ∷ alike ∷ []) waste none
+group_of waste = get_or (none ∷ group_b ∷ group_a ∷ group_d ∷ group_a ∷ group_c ∷ none ∷ group_d ∷ alike ∷ []) waste none
 
 -- 'Type 6 has no rate', and no carbon: place t, which has type t + 1, is that of inert waste.
 abbrev pub inert : (t : ℕ) → Bool
 inert t = eqb (t + 1) 6
 
 -- The rate of a type in a climate, and 0 where there is none.
-unfoldable pub rateOf : (waste climate : ℕ) → ℕ
-rateOf waste climate = numbered (group_of waste) climate
+unfoldable pub rate_of : (waste climate : ℕ) → ℕ
+rate_of waste climate = numbered (group_of waste) climate
 
 -- The site classes by code: 1 anaerobic managed, 2 semi-aerobic managed, 3 unmanaged deep, 4 unmanaged shallow or stockpile.
 abbrev pub classes : ℕ
 classes = 4
 
-abbrev pub isClass : ℕ → Bool
-isClass class = between 1 class classes
+abbrev pub is_class : ℕ → Bool
+is_class class = between 1 class classes
 
 -- The methane correction factor in percent, by site class.
 abbrev pub corrections : List ℕ
 corrections = 100 ∷ 50 ∷ 80 ∷ 40 ∷ []
 
-unfoldable pub correctionOf : (class : ℕ) → ℕ
-correctionOf class = numbered corrections class
+unfoldable pub correction_of : (class : ℕ) → ℕ
+correction_of class = numbered corrections class

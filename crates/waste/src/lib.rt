@@ -2,8 +2,8 @@
 // document 01. The ledger looks its constants up here, the door and the samples their limit. A number that names nothing has 0.
 ghost use Rattle.std.specs.Prelude.{◌∷◌, ◌≡◌, ◌+◌};
 ghost use Rattle.numbers.specs.Eight.{eight};
-ghost use Rattle.waste.specs.Kind.{isKind};
-ghost use Rattle.waste.specs.Waste.{domesticOf, industrialOf, carbonOf, isClimate, group_of, rateOf, isClass, correctionOf};
+ghost use Rattle.waste.specs.Kind.{is_kind};
+ghost use Rattle.waste.specs.Waste.{domestic_of, industrial_of, carbon_of, is_climate, group_of, rate_of, is_class, correction_of};
 
 // The most of one type that a record or a cell can bring, and the largest total that samples part, in kilograms.
 pub const MASS_LIMIT: u64 = 1_000_000_000;
@@ -36,14 +36,14 @@ const NONE: [u16; CLIMATES + 1] = [0; CLIMATES + 1];
 
 // Answers the carbon content (DOC) of domestic sludge with m percent of organic dry matter; 0 keeps the default.
 fn domestic(m: u8) -> u16
-    ensures { result ≡ domesticOf m }
+    ensures { result ≡ domestic_of m }
 {
     if m == 0 { 500 } else { 50 * m as u16 }
 }
 
 // Answers that of industrial sludge.
 fn industrial(m: u8) -> u16
-    ensures { result ≡ industrialOf m }
+    ensures { result ≡ industrial_of m }
 {
     if m == 0 {
         900
@@ -54,7 +54,7 @@ fn industrial(m: u8) -> u16
 
 // Answers the carbon content of a type, in hundredths of a percent of wet weight; m counts for sludge only.
 pub fn carbon(waste: u8, m: u8) -> u16
-    ensures { result ≡ carbonOf waste m }
+    ensures { result ≡ carbon_of waste m }
 {
     match waste {
         1 => 4300,
@@ -84,21 +84,21 @@ fn group(waste: u8) -> [u16; CLIMATES + 1]
 
 // Tells whether a number is a kind's code.
 pub fn is_kind(kind: u8) -> bool
-    ensures { result ≡ isKind kind }
+    ensures { result ≡ is_kind kind }
 {
     (kind == YEARLY) | (kind == MONTHLY)
 }
 
 // Tells whether a number is a climate's code.
 pub fn is_climate(climate: u8) -> bool
-    ensures { result ≡ isClimate climate }
+    ensures { result ≡ is_climate climate }
 {
     numbers::is_between(1, climate as u64, CLIMATES as u64)
 }
 
 // Answers the yearly rate of a type in a climate, in thousandths.
 pub fn rate(waste: u8, climate: u8) -> u16
-    ensures { result ≡ rateOf waste climate }
+    ensures { result ≡ rate_of waste climate }
 {
     let rates = group(waste);
     if climate as usize > CLIMATES {
@@ -109,7 +109,7 @@ pub fn rate(waste: u8, climate: u8) -> u16
 
 // Answers the yearly rates of types 1 to 8 in a climate.
 pub fn rates(climate: u8) -> [u16; 8]
-    ensures { result ≡ eight (λ t. rateOf (t + 1) climate) }
+    ensures { result ≡ eight (λ t. rate_of (t + 1) climate) }
 {
     [
         rate(1, climate),
@@ -125,14 +125,14 @@ pub fn rates(climate: u8) -> [u16; 8]
 
 // Tells whether a number is a site class's code.
 pub fn is_class(class: u8) -> bool
-    ensures { result ≡ isClass class }
+    ensures { result ≡ is_class class }
 {
     numbers::is_between(1, class as u64, CLASSES as u64)
 }
 
 // Answers the methane correction factor of a site class, in percent.
 pub fn correction(class: u8) -> u8
-    ensures { result ≡ correctionOf class }
+    ensures { result ≡ correction_of class }
 {
     match class {
         1 => 100,

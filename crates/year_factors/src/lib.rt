@@ -1,6 +1,6 @@
 // The factors that the months of one year share: request c of document 02. The ledger remembers them, and the refusals ask.
 ghost use Rattle.std.specs.Prelude.{◌≡◌};
-ghost use Rattle.year_factors.specs.YearFactors.{yearOf, noYear, repeats, shares, remembered, yearInRange, soundYear};
+ghost use Rattle.year_factors.specs.YearFactors.{year_of, no_year, repeats, shares, remembered, year_in_range, sound_year};
 
 // The months of a year.
 const MONTHS: u16 = 12;
@@ -16,7 +16,7 @@ pub struct YearFactors {
 impl YearFactors {
     // Answers that none is remembered.
     pub fn none() -> YearFactors
-        ensures { result ≡ noYear }
+        ensures { result ≡ no_year }
     {
         YearFactors {
             factor: 0,
@@ -27,7 +27,7 @@ impl YearFactors {
 
     // Answers those of a record.
     pub fn of(bytes: &[u8]) -> YearFactors
-        ensures { result ≡ yearOf bytes.now }
+        ensures { result ≡ year_of bytes.now }
     {
         YearFactors {
             factor: record::factor(bytes),
@@ -74,7 +74,7 @@ impl YearFactors {
 
     // Tells whether they are within their ranges.
     fn is_in_range(self) -> bool
-        ensures { result ≡ yearInRange self }
+        ensures { result ≡ year_in_range self }
     {
         let factor = record::is_factor(self.factor as u64);
         factor & record::is_share(self.captured as u64) & waste::is_class(self.class)
@@ -82,7 +82,7 @@ impl YearFactors {
 
     // Tells whether a ledger with n records of a kind may remember them.
     pub fn is_sound(self, n: u16, kind: u8) -> bool
-        ensures { result ≡ soundYear n kind self }
+        ensures { result ≡ sound_year n kind self }
     {
         if (n > 0) & (kind == waste::MONTHLY) {
             return self.is_in_range();

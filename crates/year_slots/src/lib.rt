@@ -2,10 +2,10 @@
 // the number n of months before a record, whose period is then n + 1.
 ghost use Rattle.std.specs.Prelude.{◌≡◌, ◌+◌, ◌*◌, ◌^◌, ◌≤◌, ◌<◌, length};
 ghost use Rattle.std.proofs.lemmas.List.Edits.{sets};
-ghost use Rattle.record.specs.Fields.{recordBytes};
-ghost use Rattle.carbon.specs.Carbon.{mostRecords};
-ghost use Rattle.year_slots.specs.Slots.{slotSize, slotCount, totalsBytes, slot_of, slot_at, slotRow, addedTo, anyAbove, differs};
-ghost use Rattle.year_slots.specs.Months.{monthAdded, MonthFits, monthsAdded, MonthsFit};
+ghost use Rattle.record.specs.Fields.{record_bytes};
+ghost use Rattle.carbon.specs.Carbon.{most_records};
+ghost use Rattle.year_slots.specs.Slots.{slot_size, slot_count, totals_bytes, slot_of, slot_at, slot_row, added_to, any_above, differs};
+ghost use Rattle.year_slots.specs.Months.{month_added, MonthFits, months_added, MonthsFit};
 
 // The bytes of a buffer.
 pub const BYTES: usize = 3200;
@@ -28,7 +28,7 @@ pub struct Slot {
 
 // Answers slot k.
 pub fn read(totals: &[u8], k: usize) -> Slot
-    requires { (k < slotCount) × (length totals.now ≡ totalsBytes) }
+    requires { (k < slot_count) × (length totals.now ≡ totals_bytes) }
     ensures { (result ≡ slot_at totals.now k) × (result.months < 2 ^ 32) }
 {
     let at = SLOT * k;
@@ -43,8 +43,8 @@ pub fn read(totals: &[u8], k: usize) -> Slot
 
 // Writes slot k.
 fn write(totals: &mut [u8], k: usize, slot: Slot)
-    requires { (k < slotCount) × (length totals.old ≡ totalsBytes) }
-    ensures { totals.new ≡ sets totals.old (slotSize * k) (slotRow slot) }
+    requires { (k < slot_count) × (length totals.old ≡ totals_bytes) }
+    ensures { totals.new ≡ sets totals.old (slot_size * k) (slot_row slot) }
 {
     let at = SLOT * k;
     numbers::write_u32(totals, at, slot.year);
@@ -56,14 +56,14 @@ fn write(totals: &mut [u8], k: usize, slot: Slot)
 
 // Tells whether a sum of a slot is above the limit.
 fn is_above(slot: Slot) -> bool
-    ensures { result ≡ anyAbove slot }
+    ensures { result ≡ any_above slot }
 {
     (slot.x0 > SUM_LIMIT) | (slot.figure > SUM_LIMIT) | (slot.bound > SUM_LIMIT)
 }
 
 // Tells whether the slot of the month after n refuses it.
 pub fn is_other(totals: &[u8], n: u16) -> bool
-    requires { (n < mostRecords) × (length totals.now ≡ totalsBytes) }
+    requires { (n < most_records) × (length totals.now ≡ totals_bytes) }
     ensures { result ≡ differs totals.now (n + 1) }
 {
     let k = n / 12;
@@ -79,9 +79,9 @@ pub fn is_other(totals: &[u8], n: u16) -> bool
 
 // Adds the month after n to its slot, with x0, figure and bound as its output record says.
 fn add(totals: &mut [u8], n: u16, out: &[u8])
-    requires n_lt_most_records { (n < mostRecords) × (length totals.old ≡ totalsBytes) × (recordBytes ≤ length out.now) }
+    requires n_lt_most_records { (n < most_records) × (length totals.old ≡ totals_bytes) × (record_bytes ≤ length out.now) }
     requires month_fits { MonthFits (slot_at totals.old (slot_of (n + 1))) out.now }
-    ensures { totals.new ≡ monthAdded totals.old n out.now }
+    ensures { totals.new ≡ month_added totals.old n out.now }
 {
     let k = n / 12;
     let slot = read(totals, k as usize);
@@ -97,9 +97,9 @@ fn add(totals: &mut [u8], n: u16, out: &[u8])
 
 // Adds so many months after n to their slots, from their output records.
 pub fn add_months(totals: &mut [u8], n: u16, out: &[u8], count: u64)
-    requires count_bound { (n + count ≤ mostRecords) × (length totals.old ≡ totalsBytes) × (recordBytes * count ≤ length out.now) }
+    requires count_bound { (n + count ≤ most_records) × (length totals.old ≡ totals_bytes) × (record_bytes * count ≤ length out.now) }
     requires months_fit { MonthsFit count totals.old n out.now }
-    ensures { totals.new ≡ monthsAdded count totals.old n out.now }
+    ensures { totals.new ≡ months_added count totals.old n out.now }
 {
     let mut months = n;
     let mut at: usize = 0;

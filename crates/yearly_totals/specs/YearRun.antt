@@ -1,41 +1,41 @@
 -- A file year by year, for functions that run the records of a year as a plain file; no public contract says it.
 use Rattle.std.specs.Prelude.{Bool, true, cond, ◌&&◌, ◌||◌, List, ℕ, ◌+◌, ◌-◌, ◌*◌, ◌/◌, ◌%◌, ◌^◌, eqb, leb, ltb, take}
-use Rattle.waste.specs.Kind.{isYearly}
-use Rattle.record.specs.Fields.{recordBytes, kind_of}
-use Rattle.carbon.specs.Carbon.{mostRecords}
+use Rattle.waste.specs.Kind.{is_yearly}
+use Rattle.record.specs.Fields.{record_bytes, kind_of}
+use Rattle.carbon.specs.Carbon.{most_records}
 use Rattle.ledger.specs.declared.book.Ledger.{Ledger}
-use Rattle.run.specs.History.{recordsOf, Run}
+use Rattle.run.specs.History.{records_of, Run}
 use Rattle.year_slots.specs.Slots.{slot_at, differs}
 use Rattle.year_slots.specs.declared.Slot.{Slot}
-use Rattle.yearly_totals.specs.Months.{monthRunOf}
+use Rattle.yearly_totals.specs.Months.{month_run_of}
 
 -- The smaller of two numbers.
-unfoldable pub leastOf : (a b : ℕ) → ℕ
-leastOf a b = cond (ltb a b) a b
+unfoldable pub least_of : (a b : ℕ) → ℕ
+least_of a b = cond (ltb a b) a b
 
 -- The refusal of a record, from that of the plain step, with a buffer of 3200 bytes: the tests before 6 have numbers up to 5.
-unfoldable pub asMonthly : (refusal : ℕ) → (isYearly differs : Bool) → ℕ
-asMonthly refusal isYearly differs =
-    cond (isYearly && (eqb refusal 0 || ltb 5 refusal)) 27 (cond (eqb refusal 0 && differs) 32 refusal)
+unfoldable pub as_monthly : (refusal : ℕ) → (is_yearly differs : Bool) → ℕ
+as_monthly refusal is_yearly differs =
+    cond (is_yearly && (eqb refusal 0 || ltb 5 refusal)) 27 (cond (eqb refusal 0 && differs) 32 refusal)
 
 -- Whether the slot of the month after n refuses it; a ledger that is full has no such slot.
-unfoldable pub slotRefuses : (totals : List ℕ) (n : ℕ) → Bool
-slotRefuses totals n = cond (ltb n mostRecords) (differs totals (n + 1)) true
+unfoldable pub slot_refuses : (totals : List ℕ) (n : ℕ) → Bool
+slot_refuses totals n = cond (ltb n most_records) (differs totals (n + 1)) true
 
 -- With sums up to 7 × 10^18 no month of the year brings a sum above 10^19.
-abbrev pub smallSum : ℕ
-smallSum = 7 * 10 ^ 18
+abbrev pub small_sum : ℕ
+small_sum = 7 * 10 ^ 18
 
-unfoldable pub areSmall : Slot → Bool
-areSmall s = leb s.x0 smallSum && leb s.figure smallSum && leb s.bound smallSum
+unfoldable pub are_small : Slot → Bool
+are_small s = leb s.x0 small_sum && leb s.figure small_sum && leb s.bound small_sum
 
 -- So many records are run at once after n: the rest of the year, or one.
-unfoldable pub atOnce : (totals : List ℕ) (n : ℕ) → ℕ
-atOnce totals n = cond (areSmall (slot_at totals (n / 12))) (12 - n % 12) 1
+unfoldable pub at_once : (totals : List ℕ) (n : ℕ) → ℕ
+at_once totals n = cond (are_small (slot_at totals (n / 12))) (12 - n % 12) 1
 
-unfoldable pub recordsAtOnce : Ledger → (totals left : List ℕ) → ℕ
-recordsAtOnce l totals left = cond (slotRefuses totals l.n || isYearly (kind_of left)) 1 (atOnce totals l.n)
+unfoldable pub records_at_once : Ledger → (totals left : List ℕ) → ℕ
+records_at_once l totals left = cond (slot_refuses totals l.n || is_yearly (kind_of left)) 1 (at_once totals l.n)
 
 -- The run of these records of what is left of a file.
-abbrev pub yearRun : Ledger → (totals left : List ℕ) → (room : ℕ) → Run
-yearRun l totals left room = monthRunOf l totals (recordsOf (take (recordBytes * recordsAtOnce l totals left) left)) room
+abbrev pub year_run : Ledger → (totals left : List ℕ) → (room : ℕ) → Run
+year_run l totals left room = month_run_of l totals (records_of (take (record_bytes * records_at_once l totals left) left)) room

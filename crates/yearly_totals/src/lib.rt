@@ -3,8 +3,8 @@
 mod year;
 
 ghost use Rattle.std.specs.Prelude.{◌≡◌, length};
-ghost use Rattle.run.specs.History.{recordsOf, outcomeOf, out_of};
-ghost use Rattle.yearly_totals.specs.Months.{takeMonthOf, monthTotals, writtenMonth, totalsAfter, monthRunOf};
+ghost use Rattle.run.specs.History.{records_of, outcome_of, out_of};
+ghost use Rattle.yearly_totals.specs.Months.{take_month_of, month_totals, written_month, totals_after, month_run_of};
 
 use ledger::{Answer, Ledger};
 use run::Outcome;
@@ -13,9 +13,9 @@ use year::run_year;
 // Takes the records of a file one after another, adds each accepted one to its year's slot and writes its output record after the last, and
 // stops at the first that is refused; a buffer of totals that is not 3200 bytes is refused with 28. Also counts the decay work.
 pub fn run_months(ledger: Ledger, totals: &mut [u8], records: &[u8], out: &mut [u8]) -> Outcome
-    ensures value { result ≡ outcomeOf (monthRunOf ledger totals.old (recordsOf records.now) (length out.old)) }
-    ensures totals_after { totals.new ≡ totalsAfter totals.old (monthRunOf ledger totals.old (recordsOf records.now) (length out.old)).accepted }
-    ensures out_after { out.new ≡ out_of (monthRunOf ledger totals.old (recordsOf records.now) (length out.old)) out.old }
+    ensures value { result ≡ outcome_of (month_run_of ledger totals.old (records_of records.now) (length out.old)) }
+    ensures totals_after { totals.new ≡ totals_after totals.old (month_run_of ledger totals.old (records_of records.now) (length out.old)).accepted }
+    ensures out_after { out.new ≡ out_of (month_run_of ledger totals.old (records_of records.now) (length out.old)) out.old }
 {
     if totals.len() != year_slots::BYTES {
         return Outcome {
@@ -50,9 +50,9 @@ pub fn run_months(ledger: Ledger, totals: &mut [u8], records: &[u8], out: &mut [
 // Takes one monthly record: answers the ledger after it, its releases, figure and bound, adds it to its year's slot, and writes its output
 // record at the start of the output; or refuses it by number, and leaves the ledger, the totals and the output as they are.
 pub fn take_month(ledger: Ledger, totals: &mut [u8], bytes: &[u8], out: &mut [u8]) -> Answer
-    ensures value { result ≡ takeMonthOf ledger totals.old bytes.now (length out.old) }
-    ensures totals_after { totals.new ≡ monthTotals ledger totals.old bytes.now (length out.old) }
-    ensures out_after { out.new ≡ writtenMonth ledger totals.old bytes.now out.old }
+    ensures value { result ≡ take_month_of ledger totals.old bytes.now (length out.old) }
+    ensures totals_after { totals.new ≡ month_totals ledger totals.old bytes.now (length out.old) }
+    ensures out_after { out.new ≡ written_month ledger totals.old bytes.now out.old }
 {
     if totals.len() != year_slots::BYTES {
         return ledger.refused(28);

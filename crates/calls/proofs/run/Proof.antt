@@ -2,10 +2,10 @@
 use mathlib.Core.Path.{◌≡◌, refl, sym, ap, ◌∙◌}
 use native.Mathlib.Omega.{arith}
 use lib.ListN.{length}
-use Rattle.run.specs.History.{recordsOf, outcomeOf, out_of}
+use Rattle.run.specs.History.{records_of, outcome_of, out_of}
 use Rattle.run.specs.declared.Outcome.{Outcome}
-use Rattle.calls.specs.Calls.{runHere}
-use Rattle.calls.proofs.Takes.{run-next, run-stays}
+use Rattle.calls.specs.Calls.{run_here}
+use Rattle.calls.proofs.Takes.{run_next, run_stays}
 use Rattle.calls.proofs.run.Statement.{statement}
 use Rattle.calls.proofs.run.Tie as tie
 
@@ -13,16 +13,16 @@ use Rattle.calls.proofs.run.Tie as tie
 abbrev start : tie.After-run → tie.Start
 start c = c.before.before.before.before.before.before.before
 
-done : (c : tie.After-run) → let s = (start c).args in c.run.result ≡ outcomeOf (runHere s.image.now s.records.now (length s.out.now))
-unfolding runHere
+done : (c : tie.After-run) → let s = (start c).args in c.run.result ≡ outcome_of (run_here s.image.now s.records.now (length s.out.now))
+unfolding run_here
 done c = rw c.before.before.read.ensures at c.run.ensures.0
 
-written : (c : tie.After-run) → let s = (start c).args in c.run.new.1.1.0 ≡ out_of (runHere s.image.now s.records.now (length s.out.now)) s.out.now
-unfolding runHere
+written : (c : tie.After-run) → let s = (start c).args in c.run.new.1.1.0 ≡ out_of (run_here s.image.now s.records.now (length s.out.now)) s.out.now
+unfolding run_here
 written c = rw c.before.before.read.ensures at c.run.ensures.1
 
 returns : tie.Need-returns
-unfolding runHere outcomeOf
+unfolding run_here outcome_of
 returns c =
     let run = c.before.before.before.before.before.before.before.before in
     let s = (start run).args in
@@ -30,20 +30,20 @@ returns c =
     let work = ap (λ (o : Outcome). o.work) (done run) in (
       ap (λ (o : Outcome). o.refusal) (done run),
       (
-        c.before.before.write.ensures ∙ rw (done run) (run-next s.image.now (recordsOf s.records.now) (length s.out.now) (omega (arith, count, c.before.before.before.before.if1.true))),
+        c.before.before.write.ensures ∙ rw (done run) (run_next s.image.now (records_of s.records.now) (length s.out.now) (omega (arith, count, c.before.before.before.before.if1.true))),
         (written run, (count, work)),
       ),
     )
 
 returns-2 : tie.Need-returns-2
-unfolding runHere outcomeOf
+unfolding run_here outcome_of
 returns-2 c =
     let run = c.before.before.before.before in
     let s = (start run).args in
     let count = ap (λ (o : Outcome). o.accepted) (done run) in
     let work = ap (λ (o : Outcome). o.work) (done run) in (
       ap (λ (o : Outcome). o.refusal) (done run),
-      (sym (run-stays s.image.now (runHere s.image.now s.records.now (length s.out.now)) (omega (arith, count, c.if1.false))), (written run, (count, work))),
+      (sym (run_stays s.image.now (run_here s.image.now s.records.now (length s.out.now)) (omega (arith, count, c.if1.false))), (written run, (count, work))),
     )
 
 pub run_spec : {M : Type 1} → statement M

@@ -6,8 +6,8 @@ use native.Mathlib.Omega.{arith}
 use borrow.Author.Rules.{rules}
 use lib.ListN.{length, drop}
 use Rattle.ledger.specs.declared.answer.Answer.{Answer}
-use Rattle.calls.specs.Calls.{answered, takeHere, takeImage, takeOut, takeAnswer}
-use Rattle.calls.proofs.Takes.{room_most, part_length, step_is, output-left, image-of, image-next, image-stays}
+use Rattle.calls.specs.Calls.{answered, take_here, take_image, take_out, take_answer}
+use Rattle.calls.proofs.Takes.{room_most, part_length, step_is, output_left, image_of_lem, image_next, image_stays}
 use Rattle.calls.proofs.take.Statement.{statement}
 use Rattle.calls.proofs.take.Tie as tie
 
@@ -16,18 +16,18 @@ abbrev start : tie.After-take-one → tie.Start
 start c = c.before.before.before.before.before.before.before.before.before
 
 done : (c : tie.After-take-one) → let s = (start c).args in
-    c.take-one.result ≡ takeHere s.image.now s.«record».now s.out.now s.answer.now
+    c.take_one.result ≡ take_here s.image.now s.«record».now s.out.now s.answer.now
 done c =
     let s = (start c).args in
     let room = c.before.before.before.before.room in
-    (rw c.before.before.read.ensures at c.take-one.ensures.0) ∙ step_is s.image.now s.«record».now s.out.now s.answer.now room.result room.ensures
+    (rw c.before.before.read.ensures at c.take_one.ensures.0) ∙ step_is s.image.now s.«record».now s.out.now s.answer.now room.result room.ensures
 
 written : (c : tie.After-take-one) → let s = (start c).args in
-    c.take-one.new.1.1.0 ++ drop c.before.before.before.before.room.result s.out.now ≡ takeOut s.image.now s.«record».now s.out.now s.answer.now
+    c.take_one.new.1.1.0 ++ drop c.before.before.before.before.room.result s.out.now ≡ take_out s.image.now s.«record».now s.out.now s.answer.now
 written c =
     let s = (start c).args in
     let room = c.before.before.before.before.room in
-    output-left s.image.now s.«record».now s.out.now s.answer.now room.result room.ensures (rw c.before.before.read.ensures at c.take-one.ensures.1)
+    output_left s.image.now s.«record».now s.out.now s.answer.now room.result room.ensures (rw c.before.before.read.ensures at c.take_one.ensures.1)
 
 abbrev after-refusal : tie.After-write-answer → tie.After-take-one
 after-refusal c = c.before.before.before.before.before.before
@@ -37,25 +37,25 @@ after-acceptance c = c.before.before.before.before.before.before.before.before.b
 
 -- the answer that is written is the step's
 said : (c : tie.After-take-one) {left : List ℕ} → let s = (start c).args in
-    left ≡ answered c.take-one.result s.answer.now → left ≡ takeAnswer s.image.now s.«record».now s.out.now s.answer.now
-unfolding takeAnswer
+    left ≡ answered c.take_one.result s.answer.now → left ≡ take_answer s.image.now s.«record».now s.out.now s.answer.now
+unfolding take_answer
 said c e = e ∙ ap (λ (a : Answer). answered a (start c).args.answer.now) (done c)
 
 returns : tie.Need-returns
-unfolding takeImage
+unfolding take_image
 returns c =
     let refused = c.before.before in
     let step = after-refusal refused in
     let s = (start step).args in (
       ap (λ (a : Answer). a.refusal) (done step),
       (
-        sym (image-stays (takeHere s.image.now s.«record».now s.out.now s.answer.now) s.image.now (λ z. refused.before.before.if1.true (ap (λ (a : Answer). a.refusal) (done step) ∙ z))),
+        sym (image_stays (take_here s.image.now s.«record».now s.out.now s.answer.now) s.image.now (λ z. refused.before.before.if1.true (ap (λ (a : Answer). a.refusal) (done step) ∙ z))),
         (written step, said step refused.write-answer.ensures),
       ),
     )
 
 returns-2 : tie.Need-returns-2
-unfolding takeImage
+unfolding take_image
 returns-2 c =
     let kept = c.before.before in
     let step = after-acceptance kept in
@@ -64,7 +64,7 @@ returns-2 c =
     let none = sym (ap (λ (a : Answer). a.refusal) (done step)) ∙ kept.before.before.before.before.before.before.if1.false in (
       sym none,
       (
-        kept.before.before.before.before.write.ensures ∙ rw (done step) (image-next (takeHere s.image.now s.«record».now s.out.now s.answer.now) s.image.now (image-of s.image.now s.«record».now s.out.now s.answer.now room.result room.ensures none) none),
+        kept.before.before.before.before.write.ensures ∙ rw (done step) (image_next (take_here s.image.now s.«record».now s.out.now s.answer.now) s.image.now (image_of_lem s.image.now s.«record».now s.out.now s.answer.now room.result room.ensures none) none),
         (written step, said step kept.write-answer2.ensures),
       ),
     )

@@ -2,14 +2,14 @@
 use Rattle.std.proofs.Common.{◌≡◌, ◌-◌, ◌≤◌, true, false, get_or, sym, refl, ◌∙◌, zero-le, add-one, arith, rules, le-leb}
 use mathlib.Core.Bool.{and-false}
 use borrow.Author.Tests.{lt-leb, not-true, not-false}
-use Rattle.numbers.specs.Eight.{everyOf}
-use Rattle.numbers.proofs.Eight.{every-not}
-use Rattle.carbon.specs.Carbon.{withinOf}
+use Rattle.numbers.specs.Eight.{every_of}
+use Rattle.numbers.proofs.Eight.{every_not}
+use Rattle.carbon.specs.Carbon.{within_of}
 use Rattle.carbon.proofs.are_within.Statement.{statement}
 use Rattle.carbon.proofs.are_within.Tie as tie
 
 abbrev invariant-loop : tie.invariant-loop
-invariant-loop n brought left released t₀ t = (t ≤ 8) × (everyOf (λ u. withinOf n (get_or brought u 0) (get_or left u 0) (get_or released u 0) u) t ≡ true)
+invariant-loop n brought left released t₀ t = (t ≤ 8) × (every_of (λ u. within_of n (get_or brought u 0) (get_or left u 0) (get_or released u 0) u) t ≡ true)
 
 abbrev decreases-loop : tie.decreases-loop
 decreases-loop n brought left released t₀ t = 8 - t
@@ -20,7 +20,7 @@ returns-2 c =
     let here = c.before.before.before.before.before in
     let a = here.before.before.before.args in
     rw (
-      every-not (λ u. withinOf a.n (get_or a.brought.now u 0) (get_or a.left.now u 0) (get_or a.released.now u 0) u) 8 here.before.loop.t here.loop-test.true
+      every_not (λ u. within_of a.n (get_or a.brought.now u 0) (get_or a.left.now u 0) (get_or a.released.now u 0) u) 8 here.before.loop.t here.loop-test.true
           (sym c.before.is_within.ensures ∙ not-true _ c.if2.true),
       and-false _,
     )

@@ -1,20 +1,20 @@
 -- Each arm has the rates of its climate; what is no climate has none.
 use Rattle.std.proofs.Common.{◌≡◌, ℕ, zero, suc, ◌+◌, List, get_or, replicate, refl, ◌∙◌, rules}
 use Rattle.numbers.specs.Eight.{eight}
-use Rattle.decay.specs.Series.{atRate}
-use Rattle.waste.specs.Waste.{rateOf}
+use Rattle.decay.specs.Series.{at_rate}
+use Rattle.waste.specs.Waste.{rate_of}
 use Rattle.carbon.proofs.in_climate.Statement.{statement}
 use Rattle.carbon.proofs.in_climate.Tie as tie
 
 module _ (table : List ℕ) where
   abbrev found : ℕ → List ℕ
-  found climate = eight (λ t. atRate table (rateOf (t + 1) climate))
+  found climate = eight (λ t. at_rate table (rate_of (t + 1) climate))
 
-  at-climate : (climate k : ℕ) {rates r : List ℕ} → climate ≡ k → rates ≡ eight (λ t. rateOf (t + 1) k) → r ≡ eight (λ t. atRate table (get_or rates t 0)) → r ≡ found climate
+  at-climate : (climate k : ℕ) {rates r : List ℕ} → climate ≡ k → rates ≡ eight (λ t. rate_of (t + 1) k) → r ≡ eight (λ t. at_rate table (get_or rates t 0)) → r ≡ found climate
   at-climate climate k e p q = q ∙ rw (p, e)
 
   no-climate : (climate : ℕ) → (climate ≡ 1 → ⊥) → (climate ≡ 2 → ⊥) → (climate ≡ 3 → ⊥) → (climate ≡ 4 → ⊥) → replicate 8 0 ≡ found climate
-  unfolding rateOf
+  unfolding rate_of
   no-climate zero a b c d = refl
   no-climate (suc zero) a b c d = absurd (a refl)
   no-climate (suc (suc zero)) a b c d = absurd (b refl)

@@ -3,25 +3,25 @@ use mathlib.Core.Path.{◌≡◌, ap, ◌∙◌}
 use native.Mathlib.Omega.{arith}
 use borrow.Author.Rules.{rules}
 use lib.ListN.{length, take}
-use Rattle.line.specs.Line.{decimalOf}
-use Rattle.line.proofs.Decimal.{few-digits}
-use Rattle.changes.proofs.Text.{plain-decimal}
+use Rattle.line.specs.Line.{decimal_of}
+use Rattle.line.proofs.Decimal.{few_digits}
+use Rattle.changes.proofs.Text.{plain_decimal}
 use Rattle.changes.proofs.put_number.Statement.{statement}
 use Rattle.changes.proofs.put_number.Tie as tie
 
-spelt : (c : tie.After-decimal) → take c.decimal.result c.decimal.new.1.0 ≡ decimalOf c.before.before.before.args.n
-spelt c = c.decimal.ensures.1.1 ∙ plain-decimal _ _ c.decimal.ensures.1.0
+spelt : (c : tie.After-decimal) → take c.decimal.result c.decimal.new.1.0 ≡ decimal_of c.before.before.before.args.n
+spelt c = c.decimal.ensures.1.1 ∙ plain_decimal _ _ c.decimal.ensures.1.0
 
 put-requires : tie.Need-put-requires
 put-requires c κs =
     let start = c.before.before.before.before.before in
-    omega (arith, ap length (spelt c.before.before), few-digits start.args.n 19 (omega arith), start.requires)
+    omega (arith, ap length (spelt c.before.before), few_digits start.args.n 19 (omega arith), start.requires)
 
 returns : tie.Need-returns
 returns c =
     let start = c.before.before.before.before.before.before.before.before in (
       rw (spelt c.before.before.before.before.before) at c.before.before.put.ensures,
-      omega (arith, ap length (spelt c.before.before.before.before.before), few-digits start.args.n 19 (omega arith)),
+      omega (arith, ap length (spelt c.before.before.before.before.before), few_digits start.args.n 19 (omega arith)),
     )
 
 pub put-number-spec : {M : Type 1} → statement M

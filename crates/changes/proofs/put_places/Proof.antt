@@ -7,13 +7,13 @@ use borrow.Author.Rules.{rules}
 use borrow.Author.Tests.{eq-eqb, ne_eqb}
 use Rattle.numbers.specs.Lists.{joined}
 use Rattle.line.specs.Writing.{Writes}
-use Rattle.changes.specs.Report.{placeText, placesText}
-use Rattle.changes.proofs.Text.{place-written, place-passed}
+use Rattle.changes.specs.Report.{place_text, places_text}
+use Rattle.changes.proofs.Text.{place_written, place_passed}
 use Rattle.changes.proofs.put_places.Statement.{statement}
 use Rattle.changes.proofs.put_places.Tie as tie
 
 abbrev invariant-loop : tie.invariant-loop
-invariant-loop line₀ at bits end₀ t₀ line end t = (t ≤ 8) × (end ≤ at + 2 * t) × Writes line₀ at (joined (placeText bits) t) line end
+invariant-loop line₀ at bits end₀ t₀ line end t = (t ≤ 8) × (end ≤ at + 2 * t) × Writes line₀ at (joined (place_text bits) t) line end
 
 abbrev decreases-loop : tie.decreases-loop
 decreases-loop line₀ at bits end₀ t₀ line end t = 8 - t
@@ -26,12 +26,12 @@ loop-again c =
     let bits = c.before.before.before.before.args.bits in
     let loop = c.before.before.loop in
     ⊎_elim
-    (λ w. (search rules, omega (arith, w.3.ensures.ends, w.7), rw (w.6, w.7) (place-written bits loop.t loop.invariant.2 (eq-eqb _ 1 w.0.taken) w.3.ensures)))
-    (λ w. (search rules, omega (arith, w.2), rw (w.1, w.2) (place-passed bits loop.t loop.invariant.2 (ne_eqb _ 1 w.0.left))))
+    (λ w. (search rules, omega (arith, w.3.ensures.ends, w.7), rw (w.6, w.7) (place_written bits loop.t loop.invariant.2 (eq-eqb _ 1 w.0.taken) w.3.ensures)))
+    (λ w. (search rules, omega (arith, w.2), rw (w.1, w.2) (place_passed bits loop.t loop.invariant.2 (ne_eqb _ 1 w.0.left))))
     c.if1.branch
 
 returns : tie.Need-returns invariant-loop decreases-loop
-unfolding placesText
+unfolding places_text
 returns c = let all : c.before.loop.t ≡ 8 = omega arith in (rw all at c.before.loop.invariant.2, omega arith)
 
 pub put-places-spec : {M : Type 1} → statement M

@@ -1,11 +1,11 @@
 -- What `chart` answers are numbers, so each has its bits.
 use borrow.Author.Rules.{rules}
-use Rattle.door_cases.proofs.Floats.{AreNumbers, chart-numbers}
+use Rattle.door_cases.proofs.Floats.{AreNumbers, chart_numbers}
 use Rattle.door_cases.proofs.charted.Statement.{statement}
 use Rattle.door_cases.proofs.charted.Tie as tie
 
 numbers : (c : tie.After-chart) → AreNumbers c.chart.result.point
-numbers c = rw c.chart.ensures (chart-numbers c.before.args.figure c.before.args.bound)
+numbers c = rw c.chart.ensures (chart_numbers c.before.args.figure c.before.args.bound)
 
 pub charted-spec : {M : Type 1} → statement M
 charted-spec =

@@ -1,9 +1,9 @@
 -- The three lines of the chain; factors within their ranges are all that they ask.
 use mathlib.Core.Path.{◌∙◌}
 use borrow.Author.Rules.{rules}
-use Rattle.waste.proofs.Laws.{correction-most}
+use Rattle.waste.proofs.Laws.{correction_most}
 use Rattle.record.proofs.Laws.{Ranged, ranged}
-use Rattle.figure.specs.Figure.{figureOf, x1Of, x2Of, gramsOf}
+use Rattle.figure.specs.Figure.{figure_of, x1_of, x2_of, grams_of}
 use Rattle.figure.proofs.figure.Statement.{statement}
 use Rattle.figure.proofs.figure.Tie as tie
 
@@ -13,10 +13,10 @@ ranges s = ranged s.args.factors s.requires
 methane-requires : tie.Need-methane-requires
 methane-requires c κs =
     let r = ranges c.before.before in
-    rw c.correction.ensures (r.oxidation, r.methane, r.docf, correction-most _)
+    rw c.correction.ensures (r.oxidation, r.methane, r.docf, correction_most _)
 
 returns : tie.Need-returns
-unfolding figureOf x1Of x2Of gramsOf
+unfolding figure_of x1_of x2_of grams_of
 returns c =
     let line2 = c.before in
     let line1 = line2.before.before in

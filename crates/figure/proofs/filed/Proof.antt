@@ -6,18 +6,18 @@ use Prim.Native.Nat.{ℕ}
 use native.Mathlib.Omega.{arith}
 use borrow.Author.Rules.{rules}
 use lib.ListN.{get_or}
-use Rattle.record.specs.Fields.{factorsOf}
+use Rattle.record.specs.Fields.{factors_of}
 use Rattle.carbon.proofs.Laws.{sum_fits}
-use Rattle.figure.specs.Figure.{figureOf}
-use Rattle.figure.proofs.Laws.{figure-most}
+use Rattle.figure.specs.Figure.{figure_of}
+use Rattle.figure.proofs.Laws.{figure_most}
 use Rattle.figure.proofs.filed.Statement.{statement}
 use Rattle.figure.proofs.filed.Tie as tie
 
-figure-is : (c : tie.Joined1) → let a = c.before.before.before.args in c.if1.figure ≡ figureOf (factorsOf a.bytes.now) a.x0
+figure-is : (c : tie.Joined1) → let a = c.before.before.before.args in c.if1.figure ≡ figure_of (factors_of a.bytes.now) a.x0
 figure-is c =
     let s = c.before.before.before in
     ⊎_elim
-    (λ w. w.1 ∙ omega (arith, s.requires.1.0 w.0.taken, figure-most (factorsOf s.args.bytes.now) s.args.x0 s.requires.0))
+    (λ w. w.1 ∙ omega (arith, s.requires.1.0 w.0.taken, figure_most (factors_of s.args.bytes.now) s.args.x0 s.requires.0))
     (λ w. w.2 ∙ w.1.ensures ∙ rw c.before.of.ensures)
     c.if1.branch
 

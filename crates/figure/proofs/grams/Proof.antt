@@ -5,7 +5,7 @@ use native.Mathlib.Nat.{mul_assoc, mul-le-mul_left}
 use native.Mathlib.Omega.{arith}
 use borrow.Author.Rules.{rules}
 use lib.Dec.{lit<}
-use Rattle.numbers.proofs.Split.{share-fits}
+use Rattle.numbers.proofs.Split.{share_fits}
 use Rattle.figure.proofs.grams.Statement.{statement}
 use Rattle.figure.proofs.grams.Tie as tie
 
@@ -13,7 +13,7 @@ under-half : (x c : ℕ) → c ≤ 1500 → x * c / 3000 + x * c / 3000 ≤ x
 under-half x c h = omega (arith, mul-le-mul_left x h)
 
 mul-div-requires : tie.Need-mul-div-requires
-mul-div-requires c κs = share-fits c.args.x (4 * c.args.potential) 3000 (search rules) (search rules) (omega arith) (lit< tt)
+mul-div-requires c κs = share_fits c.args.x (4 * c.args.potential) 3000 (search rules) (search rules) (omega arith) (lit< tt)
 
 returns : tie.Need-returns
 returns c =

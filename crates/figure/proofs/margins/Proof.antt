@@ -11,20 +11,20 @@ use borrow.Author.Tests.{eq-eqb, ne_eqb}
 use lib.Dec.{eqb}
 use lib.ListN.{get_or}
 use Rattle.numbers.specs.Eight.{sum_of}
-use Rattle.figure.specs.Figure.{marginOf, BOf}
+use Rattle.figure.specs.Figure.{margin_of, b_of}
 use Rattle.figure.proofs.margins.Statement.{statement}
 use Rattle.figure.proofs.margins.Tie as tie
 
 abbrev invariant-loop : tie.invariant-loop
 invariant-loop n brought types₀ shares₀ t₀ types shares t =
-    (t ≤ 8) × (types * (n + 1) + shares ≡ sum_of (λ u. marginOf n (get_or brought u 0)) t) × (types ≤ t) × (shares ≤ t * 2 ^ 51)
+    (t ≤ 8) × (types * (n + 1) + shares ≡ sum_of (λ u. margin_of n (get_or brought u 0)) t) × (types ≤ t) × (shares ≤ t * 2 ^ 51)
 
 abbrev decreases-loop : tie.decreases-loop
 decreases-loop n brought types₀ shares₀ t₀ types shares t = 8 - t
 
 -- what one type counts, in both parts
-margin-is : (n T : ℕ) {one share : ℕ} → one ≡ cond (eqb T 0) 0 1 → share ≡ n * T / 10 ^ 9 → one * (n + 1) + share ≡ marginOf n T
-unfolding marginOf
+margin-is : (n T : ℕ) {one share : ℕ} → one ≡ cond (eqb T 0) 0 1 → share ≡ n * T / 10 ^ 9 → one * (n + 1) + share ≡ margin_of n T
+unfolding margin_of
 margin-is n T e s =
     elim (ℕ_discrete T 0) [
       | yes z ↦ rw (e, s) (simp (eq-eqb T 0 z) (rw z (omega arith)))
@@ -51,7 +51,7 @@ small : (c : tie.After-loop invariant-loop decreases-loop) → c.before.loop.typ
 small c = mul-le-mul {n₂ = 8} {m₂ = 65536} (omega (arith, c.before.loop.invariant.2, c.before.loop.invariant.0)) (omega arith)
 
 returns : tie.Need-returns invariant-loop decreases-loop
-unfolding BOf
+unfolding b_of
 returns c =
     let all : c.before.loop.t ≡ 8 = omega arith in
     rw all at c.before.loop.invariant.1

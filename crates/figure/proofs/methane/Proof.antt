@@ -4,8 +4,8 @@ use Prim.Native.Nat.{ℕ, ◌-◌, ◌*◌, ◌/◌, ◌^◌}
 use native.Mathlib.Omega.{arith}
 use borrow.Author.Rules.{rules}
 use lib.Dec.{lit<}
-use Rattle.numbers.proofs.Split.{share-fits}
-use Rattle.figure.proofs.Shares.{two-shares, three-shares, four-shares}
+use Rattle.numbers.proofs.Split.{share_fits}
+use Rattle.figure.proofs.Shares.{two_shares, three_shares, four_shares}
 use Rattle.figure.proofs.methane.Statement.{statement}
 use Rattle.figure.proofs.methane.Tie as tie
 
@@ -15,8 +15,8 @@ regroup x o s d k = omega arith
 mul-div-requires : tie.Need-mul-div-requires
 mul-div-requires c κs =
     let a = c.args in
-    share-fits a.x1 ((100 - a.oxidation) * a.share * a.docf * a.correction) (10 ^ 8) (search rules) (search rules)
-    (four-shares a.oxidation a.share a.docf a.correction c.requires.1 c.requires.2 c.requires.3) (lit< tt)
+    share_fits a.x1 ((100 - a.oxidation) * a.share * a.docf * a.correction) (10 ^ 8) (search rules) (search rules)
+    (four_shares a.oxidation a.share a.docf a.correction c.requires.1 c.requires.2 c.requires.3) (lit< tt)
 
 returns : tie.Need-returns
 returns c =
@@ -27,7 +27,7 @@ pub methane-spec : {M : Type 1} → statement M
 methane-spec =
     tie.close
     (tie.spec (λ c. search rules)
-    (λ c. let a = c.args in omega (arith, two-shares a.oxidation a.share a.docf a.correction c.requires.1))
-    (λ c. let a = c.args in omega (arith, three-shares a.oxidation a.share a.docf a.correction c.requires.1 c.requires.2))
-    (λ c. let a = c.args in omega (arith, four-shares a.oxidation a.share a.docf a.correction c.requires.1 c.requires.2 c.requires.3))
+    (λ c. let a = c.args in omega (arith, two_shares a.oxidation a.share a.docf a.correction c.requires.1))
+    (λ c. let a = c.args in omega (arith, three_shares a.oxidation a.share a.docf a.correction c.requires.1 c.requires.2))
+    (λ c. let a = c.args in omega (arith, four_shares a.oxidation a.share a.docf a.correction c.requires.1 c.requires.2 c.requires.3))
     mul-div-requires returns)

@@ -5,8 +5,8 @@ use borrow.Author.Rules.{rules}
 use borrow.Author.Tests.{eq-eqb, ne_eqb}
 use lib.ListN.{length, get_or}
 use Rattle.numbers.specs.Bytes.{row_of}
-use Rattle.image.specs.Image.{frontOf, image_of, imaged}
-use Rattle.image.proofs.Laws.{image-written}
+use Rattle.image.specs.Image.{front_of, image_of, imaged}
+use Rattle.image.proofs.Laws.{image_written}
 use Rattle.image.proofs.write.Statement.{statement}
 use Rattle.image.proofs.write.Tie as tie
 
@@ -22,7 +22,7 @@ returns-2 c =
     let out = s.out.now in
     let size : length out ≡ 200 = omega (arith, test.if1.false) in
     simp (eq-eqb (length out) 200 size)
-    (image-written (frontOf l) (row_of (λ t. get_or l.brought t 0) 8) (row_of (λ t. get_or l.stock t 0) 8) (row_of (λ t. get_or l.released t 0) 8) out
+    (image_written (front_of l) (row_of (λ t. get_or l.brought t 0) 8) (row_of (λ t. get_or l.stock t 0) 8) (row_of (λ t. get_or l.released t 0) 8) out
     refl refl refl refl size front.write-front.ensures first.write-eight.ensures second.write-eight2.ensures c.before.before.write-eight3.ensures)
 
 pub write_spec : {M : Type 1} → statement M

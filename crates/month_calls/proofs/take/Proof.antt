@@ -6,10 +6,10 @@ use native.Mathlib.Omega.{arith}
 use borrow.Author.Rules.{rules}
 use lib.ListN.{length, drop}
 use Rattle.ledger.specs.declared.answer.Answer.{Answer}
-use Rattle.calls.specs.Calls.{answered, outThen}
-use Rattle.calls.proofs.Takes.{room_most, part_length, image-next, image-stays}
-use Rattle.month_calls.specs.MonthCalls.{takeMonthHere, monthTotalsHere}
-use Rattle.month_calls.proofs.Months.{step_is, totals-is, output-left, image-of}
+use Rattle.calls.specs.Calls.{answered, out_then}
+use Rattle.calls.proofs.Takes.{room_most, part_length, image_next, image_stays}
+use Rattle.month_calls.specs.MonthCalls.{take_month_here, month_totals_here}
+use Rattle.month_calls.proofs.Months.{step_is, totals_is, output_left, image_of_lem}
 use Rattle.month_calls.proofs.take.Statement.{statement}
 use Rattle.month_calls.proofs.take.Tie as tie
 
@@ -17,28 +17,28 @@ use Rattle.month_calls.proofs.take.Tie as tie
 abbrev start : tie.After-take-month → tie.Start
 start c = c.before.before.before.before.before.before.before.before.before.before.before
 
-done : (c : tie.After-take-month) → let s = (start c).args in c.take-month.result ≡ takeMonthHere s.image.now s.totals.now s.«record».now s.out.now s.answer.now
+done : (c : tie.After-take-month) → let s = (start c).args in c.take-month.result ≡ take_month_here s.image.now s.totals.now s.«record».now s.out.now s.answer.now
 done c =
     let s = (start c).args in
     let room = c.before.before.before.before.before.room in
     rw c.before.before.before.read.ensures at c.take-month.ensures.0 ∙ step_is s.image.now s.totals.now s.«record».now s.out.now s.answer.now room.result room.ensures
 
-added : (c : tie.After-take-month) → let s = (start c).args in c.take-month.new.1.0 ≡ monthTotalsHere s.image.now s.totals.now s.«record».now s.out.now s.answer.now
+added : (c : tie.After-take-month) → let s = (start c).args in c.take-month.new.1.0 ≡ month_totals_here s.image.now s.totals.now s.«record».now s.out.now s.answer.now
 added c =
     let s = (start c).args in
     let room = c.before.before.before.before.before.room in
-    rw c.before.before.before.read.ensures at c.take-month.ensures.1.0 ∙ totals-is s.image.now s.totals.now s.«record».now s.out.now s.answer.now room.result room.ensures
+    rw c.before.before.before.read.ensures at c.take-month.ensures.1.0 ∙ totals_is s.image.now s.totals.now s.«record».now s.out.now s.answer.now room.result room.ensures
 
 written : (c : tie.After-take-month) → let s = (start c).args in
-    c.take-month.new.1.1.1.0 ++ drop c.before.before.before.before.before.room.result s.out.now ≡ outThen (takeMonthHere s.image.now s.totals.now s.«record».now s.out.now s.answer.now) s.out.now
+    c.take-month.new.1.1.1.0 ++ drop c.before.before.before.before.before.room.result s.out.now ≡ out_then (take_month_here s.image.now s.totals.now s.«record».now s.out.now s.answer.now) s.out.now
 written c =
     let s = (start c).args in
     let room = c.before.before.before.before.before.room in
-    output-left s.image.now s.totals.now s.«record».now s.out.now s.answer.now room.result room.ensures (rw c.before.before.before.read.ensures at c.take-month.ensures.1.1)
+    output_left s.image.now s.totals.now s.«record».now s.out.now s.answer.now room.result room.ensures (rw c.before.before.before.read.ensures at c.take-month.ensures.1.1)
 
 -- the answer that is written is the step's
 said : (c : tie.After-take-month) {left : List ℕ} → let s = (start c).args in
-    left ≡ answered c.take-month.result s.answer.now → left ≡ answered (takeMonthHere s.image.now s.totals.now s.«record».now s.out.now s.answer.now) s.answer.now
+    left ≡ answered c.take-month.result s.answer.now → left ≡ answered (take_month_here s.image.now s.totals.now s.«record».now s.out.now s.answer.now) s.answer.now
 said c e = e ∙ ap (λ (a : Answer). answered a (start c).args.answer.now) (done c)
 
 returns : tie.Need-returns
@@ -49,7 +49,7 @@ returns c =
     let none = sym (ap (λ (a : Answer). a.refusal) (done step)) ∙ c.before.before.before.before.if1.true in (
       ap (λ (a : Answer). a.refusal) (done step),
       (
-        c.before.before.write.ensures ∙ rw (done step) (image-next (takeMonthHere s.image.now s.totals.now s.«record».now s.out.now s.answer.now) s.image.now (image-of s.image.now s.totals.now s.«record».now s.out.now s.answer.now room.result room.ensures none) none),
+        c.before.before.write.ensures ∙ rw (done step) (image_next (take_month_here s.image.now s.totals.now s.«record».now s.out.now s.answer.now) s.image.now (image_of_lem s.image.now s.totals.now s.«record».now s.out.now s.answer.now room.result room.ensures none) none),
         (added step, (written step, said step c.before.before.before.before.before.before.before.before.write-answer.ensures)),
       ),
     )
@@ -61,7 +61,7 @@ returns-2 c =
     let refusal = ap (λ (a : Answer). a.refusal) (done step) in (
       refusal,
       (
-        sym (image-stays (takeMonthHere s.image.now s.totals.now s.«record».now s.out.now s.answer.now) s.image.now (λ z. c.if1.false (refusal ∙ z))),
+        sym (image_stays (take_month_here s.image.now s.totals.now s.«record».now s.out.now s.answer.now) s.image.now (λ z. c.if1.false (refusal ∙ z))),
         (added step, (written step, said step c.before.before.before.before.write-answer.ensures)),
       ),
     )

@@ -1,30 +1,30 @@
 -- The public functions of `ledger`.
 use Rattle.ledger.proofs.book.Ledger.fresh.Reads as fresh
-use Rattle.ledger.proofs.book.Ledger.is_sound.Reads as is-sound
+use Rattle.ledger.proofs.book.Ledger.is_sound.Reads as is_sound
 use Rattle.ledger.proofs.are_sound.Reads as are-sound
 use Rattle.ledger.proofs.book.Ledger.totals.Reads as totals
 use Rattle.ledger.proofs.book.Ledger.enter.Reads as enter
 use Rattle.ledger.proofs.book.Ledger.refused.Reads as refused
 use Rattle.ledger.proofs.book.Ledger.take.Reads as take
-use Rattle.promise_answers.proofs.OneAnswer.{OneAnswer, Settled, by-equation, ◌&◌, both}
+use Rattle.promise_answers.proofs.OneAnswer.{OneAnswer, Settled, by_equation, ◌&◌, both}
 
-pub fresh-one : OneAnswer fresh.Learnt
-fresh-one = by-equation (λ κs a r s p. p)
+pub fresh_one : OneAnswer fresh.Learnt
+fresh_one = by_equation (λ κs a r s p. p)
 
-pub is-sound-one : OneAnswer is-sound.Learnt
-is-sound-one = by-equation (λ κs a r s p. p)
+pub is_sound_one : OneAnswer is_sound.Learnt
+is_sound_one = by_equation (λ κs a r s p. p)
 
-pub are-sound-one : OneAnswer are-sound.Learnt
-are-sound-one = by-equation (λ κs a r s p. p)
+pub are_sound_one : OneAnswer are-sound.Learnt
+are_sound_one = by_equation (λ κs a r s p. p)
 
-pub totals-one : OneAnswer totals.Learnt
-totals-one = by-equation (λ κs a r s p. p)
+pub totals_one : OneAnswer totals.Learnt
+totals_one = by_equation (λ κs a r s p. p)
 
 pub enter_one : Settled enter.Learnt (λ κs r s. r & s.1.1.1.0.now)
-enter_one = by-equation (λ κs a r s p. both p.0 p.1)
+enter_one = by_equation (λ κs a r s p. both p.0 p.1)
 
-pub ledger-refused-one : OneAnswer refused.Learnt
-ledger-refused-one = by-equation (λ κs a r s p. p)
+pub ledger_refused_one : OneAnswer refused.Learnt
+ledger_refused_one = by_equation (λ κs a r s p. p)
 
-pub take-one : Settled take.Learnt (λ κs r s. r & s.1.1.0.now)
-take-one = by-equation (λ κs a r s p. both p.0 p.1)
+pub take_one : Settled take.Learnt (λ κs r s. r & s.1.1.0.now)
+take_one = by_equation (λ κs a r s p. both p.0 p.1)

@@ -1,6 +1,6 @@
 -- The public function of `lines`.
 use Rattle.lines.proofs.listing.Reads as listing
-use Rattle.promise_answers.proofs.OneAnswer.{Settled, by-equation, ◌&◌, both}
+use Rattle.promise_answers.proofs.OneAnswer.{Settled, by_equation, ◌&◌, both}
 
-pub listing-one : Settled listing.Learnt (λ κs r s. r & s.1.0.now)
-listing-one = by-equation (λ κs a r s p. both p.0 p.1.0)
+pub listing_one : Settled listing.Learnt (λ κs r s. r & s.1.0.now)
+listing_one = by_equation (λ κs a r s p. both p.0 p.1.0)

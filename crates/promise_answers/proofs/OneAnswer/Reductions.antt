@@ -3,16 +3,16 @@ use Rattle.reductions.proofs.with_year.Reads as with-year
 use Rattle.reductions.proofs.all_grams.Reads as all-grams
 use Rattle.reductions.proofs.stretch_refusal.Reads as stretch-refusal
 use Rattle.reductions.proofs.less_all.Reads as less-all
-use Rattle.promise_answers.proofs.OneAnswer.{OneAnswer, by-equation}
+use Rattle.promise_answers.proofs.OneAnswer.{OneAnswer, by_equation}
 
-pub with-year-one : OneAnswer with-year.Learnt
-with-year-one = by-equation (λ κs a r s p. p)
+pub with_year_one : OneAnswer with-year.Learnt
+with_year_one = by_equation (λ κs a r s p. p)
 
-pub all-grams-one : OneAnswer all-grams.Learnt
-all-grams-one = by-equation (λ κs a r s p. p.0)
+pub all_grams_one : OneAnswer all-grams.Learnt
+all_grams_one = by_equation (λ κs a r s p. p.0)
 
-pub stretch-refusal-one : OneAnswer stretch-refusal.Learnt
-stretch-refusal-one = by-equation (λ κs a r s p. p)
+pub stretch_refusal_one : OneAnswer stretch-refusal.Learnt
+stretch_refusal_one = by_equation (λ κs a r s p. p)
 
-pub less-all-one : OneAnswer less-all.Learnt
-less-all-one = by-equation (λ κs a r s p. p)
+pub less_all_one : OneAnswer less-all.Learnt
+less_all_one = by_equation (λ κs a r s p. p)

@@ -2,10 +2,10 @@
 use mathlib.Core.List.{[], ◌∷◌}
 use Rattle.releases.proofs.fill_four.Reads as fill-four
 use Rattle.releases.proofs.add_across.Reads as add-across
-use Rattle.promise_answers.proofs.OneAnswer.{Settled, by-equation, ◌&◌, both}
+use Rattle.promise_answers.proofs.OneAnswer.{Settled, by_equation, ◌&◌, both}
 
-pub fill-four-one : Settled fill-four.Learnt (λ κs r s. r & (s.1.1.1.1.1.0.now ∷ s.1.1.1.1.1.1.0.now ∷ s.1.1.1.1.1.1.1.0.now ∷ s.1.1.1.1.1.1.1.1.0.now ∷ []))
-fill-four-one = by-equation (λ κs a r s p. both p.0 p.1)
+pub fill_four_one : Settled fill-four.Learnt (λ κs r s. r & (s.1.1.1.1.1.0.now ∷ s.1.1.1.1.1.1.0.now ∷ s.1.1.1.1.1.1.1.0.now ∷ s.1.1.1.1.1.1.1.1.0.now ∷ []))
+fill_four_one = by_equation (λ κs a r s p. both p.0 p.1)
 
-pub add-across-one : Settled add-across.Learnt (λ κs r s. s.1.1.1.1.1.1.1.1.1.1.0.now)
-add-across-one = by-equation (λ κs a r s p. p)
+pub add_across_one : Settled add-across.Learnt (λ κs r s. s.1.1.1.1.1.1.1.1.1.1.0.now)
+add_across_one = by_equation (λ κs a r s p. p)

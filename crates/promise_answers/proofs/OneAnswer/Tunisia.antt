@@ -1,6 +1,6 @@
 -- The public function of `tunisia`.
 use Rattle.tunisia.proofs.reduction_over.Reads as reduction-over
-use Rattle.promise_answers.proofs.OneAnswer.{OneAnswer, by-equation}
+use Rattle.promise_answers.proofs.OneAnswer.{OneAnswer, by_equation}
 
-pub reduction-over-one : OneAnswer reduction-over.Learnt
-reduction-over-one = by-equation (λ κs a r s p. p.0)
+pub reduction_over_one : OneAnswer reduction-over.Learnt
+reduction_over_one = by_equation (λ κs a r s p. p.0)

@@ -6,25 +6,25 @@ use Rattle.waste.proofs.rate.Reads as rate
 use Rattle.waste.proofs.rates.Reads as rates
 use Rattle.waste.proofs.is_class.Reads as is-class
 use Rattle.waste.proofs.correction.Reads as correction
-use Rattle.promise_answers.proofs.OneAnswer.{OneAnswer, by-equation}
+use Rattle.promise_answers.proofs.OneAnswer.{OneAnswer, by_equation}
 
-pub carbon-one : OneAnswer carbon.Learnt
-carbon-one = by-equation (λ κs a r s p. p)
+pub carbon_one : OneAnswer carbon.Learnt
+carbon_one = by_equation (λ κs a r s p. p)
 
-pub is-kind-one : OneAnswer is-kind.Learnt
-is-kind-one = by-equation (λ κs a r s p. p)
+pub is_kind_one : OneAnswer is-kind.Learnt
+is_kind_one = by_equation (λ κs a r s p. p)
 
-pub is-climate-one : OneAnswer is-climate.Learnt
-is-climate-one = by-equation (λ κs a r s p. p)
+pub is_climate_one : OneAnswer is-climate.Learnt
+is_climate_one = by_equation (λ κs a r s p. p)
 
-pub rate-one : OneAnswer rate.Learnt
-rate-one = by-equation (λ κs a r s p. p)
+pub rate_one : OneAnswer rate.Learnt
+rate_one = by_equation (λ κs a r s p. p)
 
-pub rates-one : OneAnswer rates.Learnt
-rates-one = by-equation (λ κs a r s p. p)
+pub rates_one : OneAnswer rates.Learnt
+rates_one = by_equation (λ κs a r s p. p)
 
-pub is-class-one : OneAnswer is-class.Learnt
-is-class-one = by-equation (λ κs a r s p. p)
+pub is_class_one : OneAnswer is-class.Learnt
+is_class_one = by_equation (λ κs a r s p. p)
 
-pub correction-one : OneAnswer correction.Learnt
-correction-one = by-equation (λ κs a r s p. p)
+pub correction_one : OneAnswer correction.Learnt
+correction_one = by_equation (λ κs a r s p. p)

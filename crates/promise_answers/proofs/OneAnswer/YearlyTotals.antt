@@ -6,27 +6,27 @@ use Rattle.yearly_totals.proofs.run_months.Reads as run-months
 use Rattle.yearly_totals.proofs.take_month.Reads as take-month
 use Rattle.month_calls.proofs.take.Reads as month-take
 use Rattle.month_calls.proofs.run.Reads as month-run
-use Rattle.promise_answers.proofs.OneAnswer.{OneAnswer, Settled, by-equation, ◌&◌, both}
+use Rattle.promise_answers.proofs.OneAnswer.{OneAnswer, Settled, by_equation, ◌&◌, both}
 
-pub read-slot-one : OneAnswer read-slot.Learnt
-read-slot-one = by-equation (λ κs a r s p. p.0)
+pub read_slot_one : OneAnswer read-slot.Learnt
+read_slot_one = by_equation (λ κs a r s p. p.0)
 
-pub is-other-one : OneAnswer is-other.Learnt
-is-other-one = by-equation (λ κs a r s p. p)
+pub is_other_one : OneAnswer is-other.Learnt
+is_other_one = by_equation (λ κs a r s p. p)
 
-pub add-months-one : Settled add-months.Learnt (λ κs r s. s.0.now)
-add-months-one = by-equation (λ κs a r s p. p)
+pub add_months_one : Settled add-months.Learnt (λ κs r s. s.0.now)
+add_months_one = by_equation (λ κs a r s p. p)
 
-pub run-months-one : Settled run-months.Learnt (λ κs r s. r & s.1.0.now & s.1.1.1.0.now)
-run-months-one = by-equation (λ κs a r s p. both p.0 (both p.1.0 p.1.1))
+pub run_months_one : Settled run-months.Learnt (λ κs r s. r & s.1.0.now & s.1.1.1.0.now)
+run_months_one = by_equation (λ κs a r s p. both p.0 (both p.1.0 p.1.1))
 
-pub take-month-one : Settled take-month.Learnt (λ κs r s. r & s.1.0.now & s.1.1.1.0.now)
-take-month-one = by-equation (λ κs a r s p. both p.0 (both p.1.0 p.1.1))
+pub take_month_one : Settled take-month.Learnt (λ κs r s. r & s.1.0.now & s.1.1.1.0.now)
+take_month_one = by_equation (λ κs a r s p. both p.0 (both p.1.0 p.1.1))
 
 -- image, totals, record, output and answer
-pub month-take-one : Settled month-take.Learnt (λ κs r s. r & s.0.now & s.1.0.now & s.1.1.1.0.now & s.1.1.1.1.0.now)
-month-take-one = by-equation (λ κs a r s p. both p.0 (both p.1.0 (both p.1.1.0 (both p.1.1.1.0 p.1.1.1.1))))
+pub month_take_one : Settled month-take.Learnt (λ κs r s. r & s.0.now & s.1.0.now & s.1.1.1.0.now & s.1.1.1.1.0.now)
+month_take_one = by_equation (λ κs a r s p. both p.0 (both p.1.0 (both p.1.1.0 (both p.1.1.1.0 p.1.1.1.1))))
 
 -- image, totals, records, output, and the two numbers that are written
-pub month-run-one : Settled month-run.Learnt (λ κs r s. r & s.0.now & s.1.0.now & s.1.1.1.0.now & s.1.1.1.1.0.now & s.1.1.1.1.1.0.now)
-month-run-one = by-equation (λ κs a r s p. both p.0 (both p.1.0 (both p.1.1.0 (both p.1.1.1.0 (both p.1.1.1.1.0 p.1.1.1.1.1)))))
+pub month_run_one : Settled month-run.Learnt (λ κs r s. r & s.0.now & s.1.0.now & s.1.1.1.0.now & s.1.1.1.1.0.now & s.1.1.1.1.1.0.now)
+month_run_one = by_equation (λ κs a r s p. both p.0 (both p.1.0 (both p.1.1.0 (both p.1.1.1.0 (both p.1.1.1.1.0 p.1.1.1.1.1)))))

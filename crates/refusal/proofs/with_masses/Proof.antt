@@ -10,5 +10,5 @@ with-masses-spec =
     tie.close
     (tie.spec (λ c. simp (ne_eqb _ _ c.if1.true))
     (λ c κs. search rules)
-    (λ c. simp (eq-eqb _ _ c.before.before.if1.false, sym c.before.are-light.ensures ∙ not-true _ c.if2.true))
-    (λ c. simp (eq-eqb _ _ c.before.before.if1.false, sym c.before.are-light.ensures ∙ not-false _ c.if2.false)))
+    (λ c. simp (eq-eqb _ _ c.before.before.if1.false, sym c.before.are_light.ensures ∙ not-true _ c.if2.true))
+    (λ c. simp (eq-eqb _ _ c.before.before.if1.false, sym c.before.are_light.ensures ∙ not-false _ c.if2.false)))

@@ -4,14 +4,14 @@ use Prim.Native.Nat.{ℕ, ◌/◌, ◌≤◌}
 use native.Mathlib.Omega.{arith}
 use lib.ListN.{length}
 use lib.Seq.{length-take-le}
-use Rattle.repair.specs.Rooms.{recordsTaken, fileBytes}
+use Rattle.repair.specs.Rooms.{records_taken, file_bytes}
 use Rattle.repair.proofs.put_right.Statement.{statement}
 use Rattle.repair.proofs.put_right.Tie as tie
 
 fits : {n room before after : ℕ} → n ≤ room → before ≡ room → after ≡ before → n ≤ after
 fits h room kept = omega arith
 
-few : (n : ℕ) → n ≤ fileBytes → n / 48 ≤ recordsTaken
+few : (n : ℕ) → n ≤ file_bytes → n / 48 ≤ records_taken
 few n h = omega arith
 
 abbrev start : tie.After-repair → tie.Start

@@ -11,12 +11,12 @@ use borrow.Author.Count.{below_more}
 use borrow.Author.Tests.{not-true, not-false}
 use lib.ListN.{length, take, drop}
 use Rattle.record.specs.Ranges.{light}
-use Rattle.ledger.specs.Refusal.{refusalOf}
-use Rattle.ledger.specs.Take.{acceptedOf, entered_of, outputRecord}
+use Rattle.ledger.specs.Refusal.{refusal_of}
+use Rattle.ledger.specs.Take.{accepted_of, entered_of, output_record}
 use Rattle.ledger.specs.declared.answer.Entered.{Entered}
-use Rattle.ledger.proofs.Accepted.{room-alike}
-use Rattle.ledger.proofs.Settle.{work-small}
-use Rattle.run.proofs.MidRun.{MidRun, early, run-starts, lent_length, lent_back, reach-within, next-within, at_last, at-early, at-heavy, no-refusal, work-fits, turn_on, Ends, may-settle}
+use Rattle.ledger.proofs.Accepted.{room_alike}
+use Rattle.ledger.proofs.Settle.{work_small}
+use Rattle.run.proofs.MidRun.{MidRun, early, run_starts, lent_length, lent_back, reach_within, next_within, at_last, at_early, at_heavy, no_refusal, work_fits, turn_on, Ends, may_settle}
 use Rattle.run.proofs.run.Statement.{statement}
 use Rattle.run.proofs.run.Tie as tie
 
@@ -44,40 +44,40 @@ bytes_at h = take 48 (drop h.records.at (fileOf h))
 
 record Ready (h : Head) : Type 0 where
   in_reach : h.records.at + 48 ≤ h.before.before.reach.result
-  in-file : h.records.at + 48 ≤ length (fileOf h)
-  in-out : h.records.at + 48 ≤ length h.records.out
+  in_file : h.records.at + 48 ≤ length (fileOf h)
+  in_out : h.records.at + 48 ≤ length h.records.out
 
 ready : (c : tie.Else1 invariant-loop decreases-loop invariant-records decreases-records) → Ready c.before
 ready c =
     let h = c.before in
     let end = h.before.before.reach.ensures in
     let out₀ = h.before.before.before.before.before.before.before.before.before.before.before.before.args.out.now in
-    let w = reach-within (length (fileOf h)) (length out₀) in
+    let w = reach_within (length (fileOf h)) (length out₀) in
     let next =
-    next-within (length (fileOf h)) (length out₀) h.records.at (length h.records.invariant.0.done) h.records.invariant.0.counted
+    next_within (length (fileOf h)) (length out₀) h.records.at (length h.records.invariant.0.done) h.records.invariant.0.counted
     (omega (arith, end, h.records.invariant.1, c.if1.false)) in
-    record { in_reach = omega (arith, end, next); in-file = omega (arith, next, w.0); in-out = omega (arith, next, w.1, h.records.invariant.0.as_long) }
+    record { in_reach = omega (arith, end, next); in_file = omega (arith, next, w.0); in_out = omega (arith, next, w.1, h.records.invariant.0.as_long) }
 
 -- past both checks the record is accepted
 none-early : (c : tie.After-early invariant-loop decreases-loop invariant-records decreases-records) → c.early.result ≡ 0
     → let h = c.before.before.before in early h.records.ledger (bytes_at h) 48 h.before.before.before.before.are-sound.result ≡ 0
 none-early c z = sym (rw (add-sub_cancel_left c.before.before.before.records.at 48) at c.early.ensures) ∙ z
 
-passed : (c : tie.After-loop invariant-loop decreases-loop invariant-records decreases-records) → let h = c.before.before.before.before.before.before in refusalOf h.records.ledger (bytes_at h) 48 ≡ 0
+passed : (c : tie.After-loop invariant-loop decreases-loop invariant-records decreases-records) → let h = c.before.before.before.before.before.before in refusal_of h.records.ledger (bytes_at h) 48 ≡ 0
 passed c =
     let h = c.before.before.before.before.before.before in
-    no-refusal h.records.invariant.0 (none-early c.before.before.before c.before.before.if2.false)
+    no_refusal h.records.invariant.0 (none-early c.before.before.before c.before.before.if2.false)
     (λ t b. rw (add-sub_cancel_left h.records.at 48) at (c.before.loop.invariant.1 t (omega (arith, c.loop-test.false))))
 
 loop-again : tie.Need-loop-preserved invariant-loop decreases-loop invariant-records decreases-records
 loop-again c =
-    (search rules, below_more _ _ c.before.before.before.loop.invariant.1 (sym c.before.is-light.ensures ∙ not-false _ c.if3.false))
+    (search rules, below_more _ _ c.before.before.before.loop.invariant.1 (sym c.before.is_light.ensures ∙ not-false _ c.if3.false))
 
 enter-requires : tie.Need-enter-requires invariant-loop decreases-loop invariant-records decreases-records
 enter-requires c κs =
     let h = c.before.before.before.before.before.before.before in
     let ok = passed c.before in
-    rw (add-sub_cancel_left h.records.at 48, lent_length h.records.out h.records.at (ready c.before.before.before.before.before.before).in-out) (ok, h.records.invariant.0.fit ok)
+    rw (add-sub_cancel_left h.records.at 48, lent_length h.records.out h.records.at (ready c.before.before.before.before.before.before).in_out) (ok, h.records.invariant.0.fit ok)
 
 -- the decay work so far is at most a byte of the file each, and a record adds 8 at most
 work-adds : tie.Need-overflow-add-work invariant-loop decreases-loop invariant-records decreases-records
@@ -85,20 +85,20 @@ unfolding entered_of
 work-adds c =
     let h = c.before.before.before.before.before.before.before.before.before.before.before.before in
     let entered = c.before.before.before.before.enter in
-    omega (arith, work-fits h.records.invariant.0, ap (λ (e : Entered). e.work) entered.ensures.0, work-small h.records.ledger (take (h.records.at + 48 - h.records.at) (drop h.records.at (fileOf h))), (ready c.before.before.before.before.before.before.before.before.before.before.before).in-file, c.before.before.before.before.before.before.before.before.before.before.before.before.before.before.before.before.before.before.before.before.before.before.before.before)
+    omega (arith, work_fits h.records.invariant.0, ap (λ (e : Entered). e.work) entered.ensures.0, work_small h.records.ledger (take (h.records.at + 48 - h.records.at) (drop h.records.at (fileOf h))), (ready c.before.before.before.before.before.before.before.before.before.before.before).in_file, c.before.before.before.before.before.before.before.before.before.before.before.before.before.before.before.before.before.before.before.before.before.before.before.before)
 
 -- an accepted record, and how the loop goes on
 records-again : tie.Need-records-preserved invariant-loop decreases-loop invariant-records decreases-records
-unfolding entered_of acceptedOf
+unfolding entered_of accepted_of
 records-again c =
     let h = c.before.before.before.before.before.before.before.before.before.before.before.before in
     let r = ready c.before.before.before.before.before.before.before.before.before.before.before in
     let ok = passed c.before.before.before.before.before.before in
     let entered = c.before.before.before.before.enter in (
       rw (rw (add-sub_cancel_left h.records.at 48) at entered.ensures.0, add-sub_cancel_left h.records.at 48)
-          (turn_on h.records.invariant.0 _ (omega (arith, r.in-file))
-          (room-alike h.records.ledger (bytes_at h) (length h.records.out - h.records.at) 48 (omega (arith, r.in-out)) (omega arith) ∙ ok)
-          (lent_back h.records.out h.records.at (outputRecord (acceptedOf h.records.ledger (bytes_at h))) r.in-out
+          (turn_on h.records.invariant.0 _ (omega (arith, r.in_file))
+          (room_alike h.records.ledger (bytes_at h) (length h.records.out - h.records.at) 48 (omega (arith, r.in_out)) (omega arith) ∙ ok)
+          (lent_back h.records.out h.records.at (output_record (accepted_of h.records.ledger (bytes_at h))) r.in_out
           (rw (add-sub_cancel_left h.records.at 48) at entered.ensures.1))),
       r.in_reach,
     )
@@ -116,18 +116,18 @@ left-with c =
     (λ w.
     let r = ready (record { before = h; if1 = w.0 }) in
     rw w.5
-    (refl, at-early mid _ (omega (arith, r.in-file)) (omega (arith, r.in-out)) (rw size at w.2.ensures) w.3.taken))
+    (refl, at_early mid _ (omega (arith, r.in_file)) (omega (arith, r.in_out)) (rw size at w.2.ensures) w.3.taken))
     (λ w.
     let r = ready (record { before = h; if1 = w.0 }) in
     rw w.9 (
       refl,
-      at-heavy mid (none-early (record { before = record { before = record { before = h; if1 = w.0 }; bytes = w.1 }; early = w.2 }) w.3.left)
-          (omega (arith, r.in-file)) (omega (arith, r.in-out)) w.4.t (search rules) (rw size at (sym w.6.ensures ∙ not-true _ w.7.taken)),
+      at_heavy mid (none-early (record { before = record { before = record { before = h; if1 = w.0 }; bytes = w.1 }; early = w.2 }) w.3.left)
+          (omega (arith, r.in_file)) (omega (arith, r.in_out)) w.4.t (search rules) (rw size at (sym w.6.ensures ∙ not-true _ w.7.taken)),
     )))
     c.if1.branch
 
 settled-requires : tie.Need-settled-requires invariant-loop decreases-loop invariant-records decreases-records
-settled-requires c κs = may-settle c.before.records.invariant.0 c.if1.end.0 (left-with c).0
+settled-requires c κs = may_settle c.before.records.invariant.0 c.if1.end.0 (left-with c).0
 
 returns : tie.Need-returns invariant-loop decreases-loop invariant-records decreases-records
 returns c =
@@ -138,13 +138,13 @@ pub run_spec : {M : Type 1} → statement M
 run_spec =
     tie.close
     (tie.spec invariant-loop decreases-loop invariant-records decreases-records (λ c κs. search rules) (λ c κs. search rules) (λ c κs. search rules)
-    (λ c. (run-starts _ _ _ _ _ c.before.before.before.are-sound.ensures c.before.before.run-entries.ensures, omega arith))
-    (λ c. c.before.records.invariant.0.in-file) (λ c κs. search rules) (λ c. omega (arith, c.before.before.before.records.invariant.0.grown)) (λ c. search rules)
-    (λ c. omega (arith, (ready c).in-file, c.before.before.before.before.before.before.before.before.before.before.before.before.before)) (λ c. search rules) (λ c. search rules) (λ c. let b = (ready c).in-file in search rules) (λ c κs. search rules)
+    (λ c. (run_starts _ _ _ _ _ c.before.before.before.are-sound.ensures c.before.before.run-entries.ensures, omega arith))
+    (λ c. c.before.records.invariant.0.in_file) (λ c κs. search rules) (λ c. omega (arith, c.before.before.before.records.invariant.0.grown)) (λ c. search rules)
+    (λ c. omega (arith, (ready c).in_file, c.before.before.before.before.before.before.before.before.before.before.before.before.before)) (λ c. search rules) (λ c. search rules) (λ c. let b = (ready c).in_file in search rules) (λ c κs. search rules)
     (λ c. omega (arith, c.before.before.before.before.before.records.invariant.0.grown)) (λ c. search rules)
     (λ c. (search rules, λ k l. absurd (omega arith))) (λ c κs. search rules)
     (λ c. omega (arith, c.before.before.before.before.before.before.before.before.before.records.invariant.0.grown)) (λ c. search rules)
     (λ c. search rules) (λ c. search rules) loop-again
-    (λ c. omega (arith, (ready c.before.before.before.before.before).in-file, c.before.before.before.before.before.before.before.before.before.before.before.before.before.before.before.before.before.before)) (λ c. search rules) (λ c. search rules) (λ c. let b = (ready c.before.before.before.before.before).in-out in search rules) enter-requires
-    work-adds (λ c. omega (arith, (ready c.before.before.before.before.before.before.before.before.before.before.before).in-file, c.before.before.before.before.before.before.before.before.before.before.before.before.before.before.before.before.before.before.before.before.before.before.before.before)) (λ c. omega (arith, (ready c.before.before.before.before.before.before.before.before.before.before.before).in-file)) records-again
+    (λ c. omega (arith, (ready c.before.before.before.before.before).in_file, c.before.before.before.before.before.before.before.before.before.before.before.before.before.before.before.before.before.before)) (λ c. search rules) (λ c. search rules) (λ c. let b = (ready c.before.before.before.before.before).in_out in search rules) enter-requires
+    work-adds (λ c. omega (arith, (ready c.before.before.before.before.before.before.before.before.before.before.before).in_file, c.before.before.before.before.before.before.before.before.before.before.before.before.before.before.before.before.before.before.before.before.before.before.before.before)) (λ c. omega (arith, (ready c.before.before.before.before.before.before.before.before.before.before.before).in_file)) records-again
     settled-requires (λ c. search rules) returns)

@@ -3,14 +3,14 @@ use native.Mathlib.Omega.{arith}
 use borrow.Author.Rules.{rules}
 use lib.ListN.{take}
 use lib.Seq.{get_or-take}
-use Rattle.ledger.proofs.Accepted.{accepted-meets}
+use Rattle.ledger.proofs.Accepted.{accepted_meets}
 use Rattle.run.proofs.run_entries.Statement.{statement}
 use Rattle.run.proofs.run_entries.Tie as tie
 
 returns : tie.Need-returns
 returns c = λ ok.
     let s = c.before.before.before.before.args in
-    let same = (accepted-meets s.ledger (take 48 s.records.now) 48 ok).same (λ z. omega arith) in
+    let same = (accepted_meets s.ledger (take 48 s.records.now) 48 ok).same (λ z. omega arith) in
     rw (same.0, same.1) c.entries.ensures
 
 returns-2 : tie.Need-returns-2

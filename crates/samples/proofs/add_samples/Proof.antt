@@ -4,18 +4,18 @@ use Prim.Native.Nat.{◌-◌, ◌≤◌, zero-le}
 use native.Mathlib.Numerals.{add-one}
 use native.Mathlib.Omega.{arith}
 use borrow.Author.Rules.{rules}
-use Rattle.numbers.specs.Eight.{eight, everyOf}
-use Rattle.numbers.proofs.Eight.{every-fewer}
-use Rattle.samples.specs.Samples.{addsUp}
-use Rattle.samples.proofs.Laws.{ofPlace}
+use Rattle.numbers.specs.Eight.{eight, every_of}
+use Rattle.numbers.proofs.Eight.{every_fewer}
+use Rattle.samples.specs.Samples.{adds_up}
+use Rattle.samples.proofs.Laws.{of_place}
 use Rattle.samples.proofs.add_samples.Statement.{statement}
 use Rattle.samples.proofs.add_samples.Tie as tie
 
 abbrev invariant-loop : tie.invariant-loop
 invariant-loop samples count added₀ n₀ added n =
     (n ≤ count)
-    × (added.fractions ≡ eight (ofPlace samples n))
-    × (added.whole ≡ everyOf (addsUp samples) n)
+    × (added.fractions ≡ eight (of_place samples n))
+    × (added.whole ≡ every_of (adds_up samples) n)
 
 abbrev decreases-loop : tie.decreases-loop
 decreases-loop samples count added₀ n₀ added n = count - n
@@ -32,7 +32,7 @@ loop-again c =
 returns : tie.Need-returns invariant-loop decreases-loop
 returns c =
     let loop = c.before.before.loop in
-    let found = every-fewer _ loop.n _ loop.invariant.0 (sym loop.invariant.2 ∙ c.if1.false) in
+    let found = every_fewer _ loop.n _ loop.invariant.0 (sym loop.invariant.2 ∙ c.if1.false) in
     (c.if1.false ∙ sym found, λ up. cc)
 
 returns-2 : tie.Need-returns-2 invariant-loop decreases-loop

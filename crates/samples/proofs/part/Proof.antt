@@ -7,8 +7,8 @@ use native.Mathlib.Omega.{arith}
 use borrow.Author.Rules.{rules}
 use lib.ListN.{get_or}
 use Rattle.numbers.specs.Eight.{sum_of}
-use Rattle.numbers.proofs.Eight.{filled, filled_more, sum_more, sum-part}
-use Rattle.numbers.proofs.Split.{share-most, share-rises}
+use Rattle.numbers.proofs.Eight.{filled, filled_more, sum_more, sum_part}
+use Rattle.numbers.proofs.Split.{share_most, share_rises}
 use Rattle.samples.proofs.part.Statement.{statement}
 use Rattle.samples.proofs.part.Tie as tie
 
@@ -32,7 +32,7 @@ next c = sum_more (λ u. get_or c.before.before.args.t2 u 0) c.before.loop.t c.b
 
 no_more : (c : tie.In-loop invariant-loop decreases-loop)
     → c.before.loop.parts + get_or c.before.before.args.t2 c.before.loop.t 0 ≤ c.before.before.args.whole
-no_more c = rw (next c) (le_trans (sum-part (λ u. get_or c.before.before.args.t2 u 0) (c.before.loop.t + 1) 8 (omega arith)) c.before.before.requires.3)
+no_more c = rw (next c) (le_trans (sum_part (λ u. get_or c.before.before.args.t2 u 0) (c.before.loop.t + 1) 8 (omega arith)) c.before.before.requires.3)
 
 mul-reached : tie.Need-overflow-mul-reached invariant-loop decreases-loop
 mul-reached c =
@@ -42,10 +42,10 @@ mul-reached c =
 sub-masses : tie.Need-overflow-sub-masses invariant-loop decreases-loop
 sub-masses c =
     rw (c.before.loop.invariant.2, ← c.before.loop.invariant.1)
-    (share-rises _ _ _ c.before.before.requires.1 (mul-le-mul_left c.before.before.args.total (omega arith)))
+    (share_rises _ _ _ c.before.before.requires.1 (mul-le-mul_left c.before.before.args.total (omega arith)))
 
 cast-masses : tie.Need-overflow-cast-masses invariant-loop decreases-loop
-cast-masses c = omega (arith, share-most c.before.before.args.total _ _ (no_more c), c.before.before.requires.0)
+cast-masses c = omega (arith, share_most c.before.before.args.total _ _ (no_more c), c.before.before.requires.0)
 
 loop-again : tie.Need-loop-preserved invariant-loop decreases-loop
 loop-again c =

@@ -5,26 +5,26 @@ use Prim.Native.Nat.{◌≤◌, ◌<◌}
 use borrow.Author.Tests.{not-true, not-false}
 use borrow.Author.Rules.{rules}
 use native.Mathlib.Omega.{arith}
-use Rattle.uncertainty.specs.Uncertainty.{allows, greatest, factorFor}
-use Rattle.uncertainty.proofs.Laws.{found, passed_over, above-none}
+use Rattle.uncertainty.specs.Uncertainty.{allows, greatest, factor_for}
+use Rattle.uncertainty.proofs.Laws.{found, passed_over, above_none}
 use Rattle.uncertainty.proofs.greatest_factor.Statement.{statement}
 use Rattle.uncertainty.proofs.greatest_factor.Tie as tie
 
 abbrev invariant-loop : tie.invariant-loop
-invariant-loop squares factor₀ factor = (factor ≤ 100) × (factorFor squares ≡ greatest (allows squares) factor)
+invariant-loop squares factor₀ factor = (factor ≤ 100) × (factor_for squares ≡ greatest (allows squares) factor)
 
 abbrev decreases-loop : tie.decreases-loop
 decreases-loop squares factor₀ factor = factor
 
 loop-holds : tie.Need-loop-init invariant-loop decreases-loop
-unfolding factorFor
+unfolding factor_for
 loop-holds c = search rules
 
 not-allowed : (c : tie.Then1 invariant-loop decreases-loop) → allows c.before.before.before.args.squares c.before.before.loop.factor ≡ false
 not-allowed c = sym c.before.is-allowed.ensures ∙ not-true _ c.if1.true
 
 above : (c : tie.Then1 invariant-loop decreases-loop) → 0 < c.before.before.loop.factor
-above c = above-none c.before.before.before.args.squares c.before.before.loop.factor (not-allowed c)
+above c = above_none c.before.before.before.args.squares c.before.before.loop.factor (not-allowed c)
 
 loop-again : tie.Need-loop-preserved invariant-loop decreases-loop
 loop-again c =

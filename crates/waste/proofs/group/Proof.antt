@@ -3,7 +3,7 @@ use mathlib.Core.Logic.{inl, inr}
 use mathlib.Core.Path.{◌≡◌, refl}
 use mathlib.Core.List.{◌∷◌}
 use Rattle.waste.specs.Waste.{group_of, none}
-use Rattle.waste.proofs.Laws.{other-type}
+use Rattle.waste.proofs.Laws.{other_type}
 use Rattle.waste.proofs.group.Statement.{statement}
 use Rattle.waste.proofs.group.Tie as tie
 
@@ -18,7 +18,7 @@ returns-6 c =
     let no = c.match.rest in
     let not_a = no.0.0.0.1 in
     let not-d = no.0.0.1 in
-    other-type (λ w. 0 ∷ none ≡ 0 ∷ group_of w) refl refl (λ k. refl) c.before.args.waste no.0.0.0.0.1 (λ e. not_a (inl e)) (λ e. not-d (inl e)) (λ e. not_a (inr e)) no.0.1 (λ e. not-d (inr e)) no.1
+    other_type (λ w. 0 ∷ none ≡ 0 ∷ group_of w) refl refl (λ k. refl) c.before.args.waste no.0.0.0.0.1 (λ e. not_a (inl e)) (λ e. not-d (inl e)) (λ e. not_a (inr e)) no.0.1 (λ e. not-d (inr e)) no.1
 
 pub group-spec : {M : Type 1} → statement M
 group-spec =

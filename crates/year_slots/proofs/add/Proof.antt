@@ -3,7 +3,7 @@ use mathlib.Core.Path.{◌≡◌, ◌∙◌}
 use Prim.Native.Nat.{◌+◌, ◌-◌}
 use native.Mathlib.Omega.{arith}
 use borrow.Author.Rules.{rules}
-use Rattle.year_slots.specs.Slots.{addedTo, withMonth}
+use Rattle.year_slots.specs.Slots.{added_to, with_month}
 use Rattle.year_slots.specs.Months.{MonthFits}
 use Rattle.year_slots.proofs.add.Statement.{statement}
 use Rattle.year_slots.proofs.add.Tie as tie
@@ -16,7 +16,7 @@ fits c =
     rw c.read.ensures.0 (rw e at s.requires.1)
 
 returns : tie.Need-returns
-unfolding addedTo withMonth
+unfolding added_to with_month
 returns c =
     let wrote = c.before.before in
     let read = wrote.before.before.before.before.before.before.before.before.before in

@@ -6,7 +6,7 @@ use native.Mathlib.Omega.{arith}
 use borrow.Author.Rules.{rules}
 use lib.ListN.{length, drop, take, length-drop}
 use lib.Seq.{take_all}
-use Rattle.year_slots.proofs.Months.{MidMonths, months-on, months-end}
+use Rattle.year_slots.proofs.Months.{MidMonths, months_on, months_end}
 use Rattle.year_slots.proofs.add_months.Statement.{statement}
 use Rattle.year_slots.proofs.add_months.Tie as tie
 
@@ -30,7 +30,7 @@ loop-again : tie.Need-loop-preserved invariant-loop decreases-loop
 loop-again c =
     let in-loop = c.before.before.before.before.before in
     let loop = in-loop.before.loop in
-    rw (c.before.before.add.ensures, lent in-loop) (months-on loop.invariant (loop.left - 1) (more in-loop)).1
+    rw (c.before.before.add.ensures, lent in-loop) (months_on loop.invariant (loop.left - 1) (more in-loop)).1
 
 pub add-months-spec : {M : Type 1} → statement M
 add-months-spec =
@@ -39,6 +39,6 @@ add-months-spec =
     (λ c. let s = c.before.before in record { size = s.requires.0.1; few = s.requires.0.0; room = omega (arith, s.requires.0.2); fit = s.requires.1; so_far = refl })
     (λ c. omega (arith, c.before.before.loop.invariant.room)) (λ c. search rules) (λ c. search rules)
     (λ c κs. let in-loop = c.before.before in let loop = in-loop.before.loop in let mid = loop.invariant in
-    rw (lent in-loop) ((omega (arith, mid.few, more in-loop), mid.size, simp length-drop (omega (arith, mid.room, more in-loop))), (months-on mid (loop.left - 1) (more in-loop)).0))
+    rw (lent in-loop) ((omega (arith, mid.few, more in-loop), mid.size, simp length-drop (omega (arith, mid.room, more in-loop))), (months_on mid (loop.left - 1) (more in-loop)).0))
     (λ c. search rules) (λ c. search rules) (λ c. search rules) (λ c. search rules) loop-again (λ c. search rules)
-    (λ c. let loop = c.before.loop in months-end (rw (let z : loop.left ≡ 0 = omega (arith, c.loop-test.false) in z) at loop.invariant)))
+    (λ c. let loop = c.before.loop in months_end (rw (let z : loop.left ≡ 0 = omega (arith, c.loop-test.false) in z) at loop.invariant)))

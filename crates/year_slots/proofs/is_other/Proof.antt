@@ -3,7 +3,7 @@ use mathlib.Core.Path.{◌≡◌, sym, ◌∙◌}
 use mathlib.Core.Bool.{false}
 use Prim.Native.Nat.{◌/◌}
 use borrow.Author.Rules.{rules}
-use Rattle.year_slots.proofs.Slots.{counts, some_byte, differs-counts, differs_none, differs-some}
+use Rattle.year_slots.proofs.Slots.{counts, some_byte, differs_counts, differs_none, differs_some}
 use Rattle.year_slots.proofs.is_other.Statement.{statement}
 use Rattle.year_slots.proofs.is_other.Tie as tie
 
@@ -13,7 +13,7 @@ counted c = rw (← c.before.before.before.read.ensures.0, ← c.before.is-above
 returns : tie.Need-returns
 returns c =
     let s = c.before.before.before.before.before.args in
-    sym (differs-counts s.totals.now s.n (rw (← c.before.before.before.read.ensures.0, ← c.before.is-above.ensures) c.if1.true))
+    sym (differs_counts s.totals.now s.n (rw (← c.before.before.before.read.ensures.0, ← c.before.is-above.ensures) c.if1.true))
 
 returns-2 : tie.Need-returns-2
 returns-2 c =
@@ -28,7 +28,7 @@ returns-3 c =
     let first = c.before.before.before in
     let s = first.before.before.before.before.before.args in
     let read = first.before.before.before.read.ensures.0 in
-    rw read (sym (differs-some s.totals.now s.n (counted first) (rw read at c.before.if2.false)))
+    rw read (sym (differs_some s.totals.now s.n (counted first) (rw read at c.before.if2.false)))
 
 pub is-other-spec : {M : Type 1} → statement M
 is-other-spec =

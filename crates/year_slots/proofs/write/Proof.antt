@@ -4,13 +4,13 @@ use mathlib.Core.List.{◌++◌}
 use Prim.Native.Nat.{◌*◌}
 use borrow.Author.Rules.{rules}
 use Rattle.numbers.specs.Bytes.{bytes_of}
-use Rattle.year_slots.specs.Slots.{slotSize, slotRow}
+use Rattle.year_slots.specs.Slots.{slot_size, slot_row}
 use Rattle.year_slots.proofs.Slots.{then}
 use Rattle.year_slots.proofs.write.Statement.{statement}
 use Rattle.year_slots.proofs.write.Tie as tie
 
 returns : tie.Need-returns
-unfolding slotRow
+unfolding slot_row
 returns c =
     let bound = c.before.before in
     let figure = bound.before.before.before.before in
@@ -19,7 +19,7 @@ returns c =
     let year = months.before.before.before.before in
     let a = year.before.before.before.args in
     let totals = a.totals.now in
-    let at = slotSize * a.k in
+    let at = slot_size * a.k in
     let one = bytes_of 4 a.slot.year in
     let two = one ++ bytes_of 4 a.slot.months in
     let three = two ++ bytes_of 8 a.slot.x0 in

@@ -5,7 +5,7 @@ use native.Mathlib.Nat.{mul-le-mul, mul-pos}
 use native.Mathlib.Omega.{arith}
 use borrow.Author.Rules.{rules}
 use Rattle.decay.specs.ByMonth.{scale, bracket_of}
-use Rattle.decay.proofs.ByMonth.{quotient-within}
+use Rattle.decay.proofs.ByMonth.{quotient_within}
 use Rattle.decay.proofs.month.bracket.Statement.{statement}
 use Rattle.decay.proofs.month.bracket.Tie as tie
 
@@ -19,4 +19,4 @@ unfolding bracket_of
 bracket-spec =
     tie.close
     (tie.spec mul-result (λ c. search rules) (λ c. mul-pos (search rules) (search rules))
-    (λ c. quotient-within c.args.rate c.args.n c.args.left (search rules) (search rules) (search rules)) (λ c. refl))
+    (λ c. quotient_within c.args.rate c.args.n c.args.left (search rules) (search rules) (search rules)) (λ c. refl))

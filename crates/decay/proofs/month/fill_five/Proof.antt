@@ -3,13 +3,13 @@ use mathlib.Core.Path.{◌≡◌}
 use Prim.Native.Nat.{◌+◌, ◌-◌, ◌≤◌}
 use native.Mathlib.Omega.{arith}
 use borrow.Author.Rules.{rules}
-use Rattle.decay.specs.ByMonth.{filledTo}
+use Rattle.decay.specs.ByMonth.{filled_to}
 use Rattle.decay.proofs.ByMonth.{same_place, filled_next}
 use Rattle.decay.proofs.month.fill_five.Statement.{statement}
 use Rattle.decay.proofs.month.fill_five.Tie as tie
 
 abbrev invariant-loop : tie.invariant-loop
-invariant-loop table₀ from i₀ table i = (i ≤ 5) × (table ≡ filledTo (from + i))
+invariant-loop table₀ from i₀ table i = (i ≤ 5) × (table ≡ filled_to (from + i))
 
 abbrev decreases-loop : tie.decreases-loop
 decreases-loop table₀ from i₀ table i = 5 - i

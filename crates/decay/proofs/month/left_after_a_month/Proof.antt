@@ -3,19 +3,19 @@ use mathlib.Core.Path.{◌≡◌, refl, sym, ◌∙◌}
 use Prim.Native.Nat.{◌≤◌}
 use native.Mathlib.Omega.{arith}
 use borrow.Author.Rules.{rules}
-use Rattle.decay.specs.ByMonth.{scale, outwards, terms, leftAfterMonth}
-use Rattle.decay.proofs.ByMonth.{outwards-next, bracket-within}
+use Rattle.decay.specs.ByMonth.{scale, outwards, terms, left_after_month}
+use Rattle.decay.proofs.ByMonth.{outwards_next, bracket_within}
 use Rattle.decay.proofs.month.left_after_a_month.Statement.{statement}
 use Rattle.decay.proofs.month.left_after_a_month.Tie as tie
 
 abbrev invariant-loop : tie.invariant-loop
-invariant-loop rate left₀ n₀ left n = (n ≤ terms) × (left ≤ scale) × (outwards rate n left ≡ leftAfterMonth rate)
+invariant-loop rate left₀ n₀ left n = (n ≤ terms) × (left ≤ scale) × (outwards rate n left ≡ left_after_month rate)
 
 abbrev decreases-loop : tie.decreases-loop
 decreases-loop rate left₀ n₀ left n = n
 
 loop-holds : tie.Need-loop-init invariant-loop decreases-loop
-unfolding leftAfterMonth
+unfolding left_after_month
 loop-holds c = (search rules, search rules, refl)
 
 loop-again : tie.Need-loop-preserved invariant-loop decreases-loop
@@ -23,8 +23,8 @@ loop-again c =
     let rate = c.before.before.before.args.rate in
     let at = c.before.before.loop in (
       search rules,
-      rw c.bracket.ensures (bracket-within rate at.n at.left),
-      rw c.bracket.ensures (sym (outwards-next rate at.n at.left (search rules)) ∙ at.invariant.2),
+      rw c.bracket.ensures (bracket_within rate at.n at.left),
+      rw c.bracket.ensures (sym (outwards_next rate at.n at.left (search rules)) ∙ at.invariant.2),
     )
 
 returns : tie.Need-returns invariant-loop decreases-loop

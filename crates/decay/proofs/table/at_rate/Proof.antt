@@ -5,7 +5,7 @@ use Prim.Native.Nat.{ℕ, suc, ◌-◌}
 use native.Mathlib.Omega.{arith}
 use borrow.Author.Rules.{rules}
 use lib.ListN.{get_or-eq_default}
-use Rattle.decay.specs.Series.{atRate}
+use Rattle.decay.specs.Series.{at_rate}
 use Rattle.decay.proofs.table.at_rate.Statement.{statement}
 use Rattle.decay.proofs.table.at_rate.Tie as tie
 
@@ -16,7 +16,7 @@ returns-3 : tie.Need-returns-3
 returns-3 c =
     let a = c.before.before.before.args in
     let place : suc (a.rate - 1) ≡ a.rate = omega (arith, c.before.before.if1.false) in
-    ap (λ (k : ℕ). atRate a.table.now k) place
+    ap (λ (k : ℕ). at_rate a.table.now k) place
 
 pub at-rate-spec : {M : Type 1} → statement M
 at-rate-spec =

@@ -7,7 +7,7 @@ use lib.Ieee.{Float, nan, inf, fin, binary64, ne, is_nan}
 use lib.Ieee.Bits.{of_bits-to_bits}
 use lib.Ieee.Compare.{differs_from_itself}
 use denote.Floats.{passes}
-use Rattle.door.specs.Cell.{whole_of, answerTo, answerToNumber}
+use Rattle.door.specs.Cell.{whole_of, answer_to, answer_to_number}
 use Rattle.door.proofs.cell.weigh.Statement.{statement}
 use Rattle.door.proofs.cell.weigh.Tie as tie
 
@@ -15,8 +15,8 @@ use Rattle.door.proofs.cell.weigh.Tie as tie
 abbrev kg : tie.After-known-told → Float
 kg c = c.before.cell.given.0.0
 
-asked : (c : tie.After-known-told) → (x : Float) → x ≡ kg c → answerToNumber (whole_of x) ≡ answerTo c.before.before.before.args.cell
-asked c x e = ap (λ (y : Float). answerToNumber (whole_of y)) e ∙ sym (ap answerTo c.before.cell.given.1)
+asked : (c : tie.After-known-told) → (x : Float) → x ≡ kg c → answer_to_number (whole_of x) ≡ answer_to c.before.before.before.args.cell
+asked c x e = ap (λ (y : Float). answer_to_number (whole_of y)) e ∙ sym (ap answer_to c.before.cell.given.1)
 
 no_nan : (x : Float) → ne x x ≡ false → T (not (is_nan x))
 unfolding ne is_nan

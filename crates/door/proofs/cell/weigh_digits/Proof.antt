@@ -4,7 +4,7 @@ use mathlib.Core.Path.{◌≡◌}
 use Prim.Native.Nat.{ℕ, ◌*◌, ◌/◌, ◌^◌}
 use native.Mathlib.Nat.{div-add-mod', div-mul-le_self}
 use native.Mathlib.Omega.{arith}
-use Rattle.door.proofs.Whole.{fraction-11, minus-12, above-12, mass-is}
+use Rattle.door.proofs.Whole.{fraction_11, minus_12, above_12, mass_is}
 use Rattle.door.proofs.cell.weigh_digits.Statement.{statement}
 use Rattle.door.proofs.cell.weigh_digits.Tie as tie
 
@@ -18,7 +18,7 @@ pub weigh-digits-spec : {M : Type 1} → statement M
 weigh-digits-spec =
     tie.close
     (tie.spec (λ c. search rules) (λ c. search rules)
-    (λ c x h. fraction-11 x _ _ _ h (omega (arith, div-add-mod' c.before.args.digits (2 ^ c.before.args.behind))))
-    (λ c x h. minus-12 x _ _ _ h _ (no-rest c.before) c.if2.true (omega arith)) (λ c. search rules)
-    (λ c x h. above-12 x _ _ _ h _ (no-rest c.before.before) (omega arith)) (λ c. search rules)
-    (λ c x h. mass-is x _ _ _ h _ (no-rest c.before.before) c.before.if2.false (omega arith)))
+    (λ c x h. fraction_11 x _ _ _ h (omega (arith, div-add-mod' c.before.args.digits (2 ^ c.before.args.behind))))
+    (λ c x h. minus_12 x _ _ _ h _ (no-rest c.before) c.if2.true (omega arith)) (λ c. search rules)
+    (λ c x h. above_12 x _ _ _ h _ (no-rest c.before.before) (omega arith)) (λ c. search rules)
+    (λ c x h. mass_is x _ _ _ h _ (no-rest c.before.before) c.before.if2.false (omega arith)))

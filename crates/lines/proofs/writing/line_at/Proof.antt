@@ -6,16 +6,16 @@ use native.Mathlib.Omega.{arith}
 use borrow.Author.Rules.{rules}
 use Rattle.numbers.specs.Bytes.{number_at}
 use Rattle.line.specs.declared.form.Line.{Line}
-use Rattle.line.specs.Line.{acceptedText, padded}
-use Rattle.lines.specs.Outputs.{outputText}
+use Rattle.line.specs.Line.{accepted_text, padded}
+use Rattle.lines.specs.Outputs.{output_text}
 use Rattle.lines.proofs.writing.line_at.Statement.{statement}
 use Rattle.lines.proofs.writing.line_at.Tie as tie
 
-says : {line : Line} {period x0 figure bound stock : ℕ} (bytes : List ℕ) (at : ℕ) → line ≡ padded (acceptedText period x0 figure bound stock)
+says : {line : Line} {period x0 figure bound stock : ℕ} (bytes : List ℕ) (at : ℕ) → line ≡ padded (accepted_text period x0 figure bound stock)
     → period ≡ number_at 2 bytes at → x0 ≡ number_at 8 bytes (at + 8) → figure ≡ number_at 8 bytes (at + 16)
-    → bound ≡ number_at 8 bytes (at + 24) → stock ≡ number_at 8 bytes (at + 32) → line ≡ padded (outputText bytes at)
-unfolding outputText
-says bytes at e p x f b s = e ∙ λ i. padded (acceptedText (p i) (x i) (f i) (b i) (s i))
+    → bound ≡ number_at 8 bytes (at + 24) → stock ≡ number_at 8 bytes (at + 32) → line ≡ padded (output_text bytes at)
+unfolding output_text
+says bytes at e p x f b s = e ∙ λ i. padded (accepted_text (p i) (x i) (f i) (b i) (s i))
 
 returns : tie.Need-returns
 returns c =

@@ -3,16 +3,16 @@ use mathlib.Core.Path.{refl}
 use native.Mathlib.Omega.{arith}
 use borrow.Author.Rules.{rules}
 use borrow.Author.Tests.{eq-eqb, ne_eqb}
-use Rattle.line.specs.Line.{refusedText}
+use Rattle.line.specs.Line.{refused_text}
 use Rattle.line.specs.Writing.{Writes}
-use Rattle.line.proofs.Line.{line-is}
-use Rattle.lines.specs.Listing.{endText}
-use Rattle.lines.specs.Outputs.{endRoom}
+use Rattle.line.proofs.Line.{line_is}
+use Rattle.lines.specs.Listing.{end_text}
+use Rattle.lines.specs.Outputs.{end_room}
 use Rattle.lines.proofs.writing.put_end.Statement.{statement}
 use Rattle.lines.proofs.writing.put_end.Tie as tie
 
 put-requires : tie.Need-put-requires
-unfolding endRoom
+unfolding end_room
 put-requires c κs =
     let s = c.before.before.before.before in
     let lent = c.refused.ensures.1 in
@@ -20,17 +20,17 @@ put-requires c κs =
     (lent, omega (arith, lent.within, fits))
 
 returns-2 : tie.Need-returns-2
-unfolding endText endRoom
+unfolding end_text end_room
 returns-2 c =
     let put = c.before.before in
     let s = put.before.before.before.before.before.args in
     let lent = put.before.refused.ensures.1 in
-    let said : Writes s.text.now s.at (refusedText s.refusal s.place) put.put.new.0 put.put.result
-    = rw (line-is put.before.refused.ensures.0) at put.put.ensures in
+    let said : Writes s.text.now s.at (refused_text s.refusal s.place) put.put.new.0 put.put.result
+    = rw (line_is put.before.refused.ensures.0) at put.put.ensures in
     simp (ne_eqb s.refusal 0 put.before.before.before.if1.false) (said, omega (arith, put.put.ensures.ends, lent.whole, lent.within))
 
 pub put-end-spec : {M : Type 1} → statement M
-unfolding endText endRoom
+unfolding end_text end_room
 put-end-spec =
     tie.close
     (tie.spec

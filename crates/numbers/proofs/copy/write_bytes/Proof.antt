@@ -7,7 +7,7 @@ use native.Mathlib.Numerals.{add-one}
 use lib.ListN.{length, take, get_or, set}
 use lib.Seq.{sets, take-suc, take_all, length-take-le}
 use borrow.Author.Rules.{rules}
-use Rattle.numbers.proofs.Bytes.{sets-join}
+use Rattle.numbers.proofs.Bytes.{sets_join}
 use Rattle.numbers.proofs.copy.write_bytes.Statement.{statement}
 use Rattle.numbers.proofs.copy.write_bytes.Tie as tie
 
@@ -22,7 +22,7 @@ one_more : (out₀ bytes : List ℕ) (at i : ℕ) {out : List ℕ} → out ≡ s
 one_more out₀ bytes at i e h =
     let next : take (i + 1) bytes ≡ take i bytes ++ (get_or bytes i 0 ∷ []) = rw add-one (take-suc bytes i 0 h) in
     let place : at + i ≡ at + length (take i bytes) = omega (arith, length-take-le i bytes (omega arith)) in
-    rw (e, next, place) (sets-join (take i bytes) (get_or bytes i 0 ∷ []) out₀ at)
+    rw (e, next, place) (sets_join (take i bytes) (get_or bytes i 0 ∷ []) out₀ at)
 
 loop-again : tie.Need-loop-preserved invariant-loop decreases-loop
 loop-again c =

@@ -1,14 +1,14 @@
 -- The bytes of a number are those of its two halves.
 use native.Mathlib.Omega.{arith}
 use borrow.Author.Rules.{rules}
-use Rattle.numbers.proofs.Bytes.{number-join}
+use Rattle.numbers.proofs.Bytes.{number_join}
 use Rattle.numbers.proofs.le.read_u64.Statement.{statement}
 use Rattle.numbers.proofs.le.read_u64.Tie as tie
 
 returns : tie.Need-returns
 returns c =
     let a = c.before.before.before.args
-    in omega (arith, number-join 4 4 a.bytes.now a.at)
+    in omega (arith, number_join 4 4 a.bytes.now a.at)
 
 pub read-u64-spec : {M : Type 1} → statement M
 read-u64-spec =

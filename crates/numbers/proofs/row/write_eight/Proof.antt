@@ -6,8 +6,8 @@ use borrow.Author.Rules.{rules}
 use lib.ListN.{length, get_or}
 use lib.Seq.{sets, length-sets}
 use Rattle.numbers.specs.Bytes.{bytes_of, row_of}
-use Rattle.numbers.proofs.Bytes.{bytes-length}
-use Rattle.numbers.proofs.Joined.{joined-more}
+use Rattle.numbers.proofs.Bytes.{bytes_length}
+use Rattle.numbers.proofs.Joined.{joined_more}
 use Rattle.numbers.proofs.row.write_eight.Statement.{statement}
 use Rattle.numbers.proofs.row.write_eight.Tie as tie
 
@@ -22,7 +22,7 @@ loop-again c =
     let a = c.before.before.before.before.before.before.before.args in
     let loop = c.before.before.before.before.before.loop in
     let value : ℕ → ℕ = λ u. get_or a.t3 u 0 in
-    let here = joined-more (λ u. bytes_of 8 (value u)) 8 8 (λ u l. bytes-length 8 (value u)) loop.t loop.invariant.0 a.out.now a.at loop.invariant.1 c.before.before.write-u64.ensures in
+    let here = joined_more (λ u. bytes_of 8 (value u)) 8 8 (λ u l. bytes_length 8 (value u)) loop.t loop.invariant.0 a.out.now a.at loop.invariant.1 c.before.before.write-u64.ensures in
     (omega arith, here, rw (here, length-sets))
 
 returns : tie.Need-returns invariant-loop decreases-loop

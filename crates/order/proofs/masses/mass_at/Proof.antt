@@ -4,13 +4,13 @@ use Prim.Native.Nat.{ℕ, ◌+◌, ◌*◌}
 use native.Mathlib.Omega.{arith}
 use borrow.Author.Rules.{rules}
 use Rattle.numbers.specs.Bytes.{number_at}
-use Rattle.record.specs.Fields.{massOf}
+use Rattle.record.specs.Fields.{mass_of}
 use Rattle.order.proofs.Records.{number_in}
 use Rattle.order.proofs.masses.mass_at.Statement.{statement}
 use Rattle.order.proofs.masses.mass_at.Tie as tie
 
 returns : tie.Need-returns
-unfolding massOf
+unfolding mass_of
 returns c =
     let start = c.before.before in
     let file = start.args.file.now in

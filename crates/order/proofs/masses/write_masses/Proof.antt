@@ -6,8 +6,8 @@ use native.Mathlib.Nat.{le_antisymm}
 use native.Mathlib.Omega.{arith}
 use lib.Dec.{lit≤}
 use lib.ListN.{get_or}
-use Rattle.order.specs.Order.{eightBits}
-use Rattle.order.proofs.Anew.{Done, other-done, same-done, part-fits, mass-room, mass-fits, eight-times, four-times, as_byte, next_fits, fewer-left}
+use Rattle.order.specs.Order.{eight_bits}
+use Rattle.order.proofs.Anew.{Done, other_done, same_done, part_fits, mass_room, mass_fits, eight_times, four_times, as_byte, next_fits, fewer_left}
 use Rattle.order.proofs.masses.write_masses.Statement.{statement}
 use Rattle.order.proofs.masses.write_masses.Tie as tie
 
@@ -39,12 +39,12 @@ loop-again c =
     let mass = c.before.before.before.before.before.before.mass-at.ensures in
     let wrote = c.before.before.before.before.write-u32.ensures in
     ⊎_elim
-    (λ w. other-done s.args.file.now s.args.at s.args.t3 s.pre.0 (bytes-are (known d)) s.pre.2 s.args.out.now d.loop-test.taken d.before.loop.inv mass c.before.mass-at2.ensures wrote w.0.taken w.1)
-    (λ w. same-done s.args.file.now s.args.at s.args.t3 s.pre.0 (bytes-are (known d)) s.pre.2 s.args.out.now d.loop-test.taken d.before.loop.inv mass c.before.mass-at2.ensures wrote w.0.left w.1)
+    (λ w. other_done s.args.file.now s.args.at s.args.t3 s.pre.0 (bytes-are (known d)) s.pre.2 s.args.out.now d.loop-test.taken d.before.loop.inv mass c.before.mass-at2.ensures wrote w.0.taken w.1)
+    (λ w. same_done s.args.file.now s.args.at s.args.t3 s.pre.0 (bytes-are (known d)) s.pre.2 s.args.out.now d.loop-test.taken d.before.loop.inv mass c.before.mass-at2.ensures wrote w.0.left w.1)
     c.if1.branch
 
 returns : tie.Need-returns invariant-loop decreases-loop
-unfolding eightBits
+unfolding eight_bits
 returns c =
     let all : c.before.loop.t ≡ 8 = le_antisymm c.before.loop.invariant.0 c.loop-test.false in
     (rw all at c.before.loop.invariant.2, rw all at c.before.loop.invariant.1)
@@ -53,18 +53,18 @@ pub write-masses-spec : {M : Type 1} → statement M
 write-masses-spec =
     tie.close
     (tie.spec invariant-loop decreases-loop (λ c. (zero-le, refl, refl, refl))
-    (λ c. record { fits = eight-times c.before.loop.t c.loop-test.true })
+    (λ c. record { fits = eight_times c.before.loop.t c.loop-test.true })
     (λ c. c.loop-test.true)
     (λ c κs. ((start c).requires.0, near c))
-    (λ c. let s = start c.before.before in record { fits = part-fits s.args.at s.pre.0 16 (lit≤ tt) s.good.0.0 })
-    (λ c. let d = c.before.before in record { fits = four-times d.before.loop.t d.loop-test.true })
-    (λ c. let d = c.before.before in let s = start d in record { fits = mass-fits s.args.at s.pre.0 d.before.loop.t d.loop-test.true s.good.0.0 })
-    (λ c κs. let d = c.before.before in let s = start d in mass-room s.args.at s.pre.1 d.before.loop.t d.loop-test.true d.before.loop.invariant.3)
+    (λ c. let s = start c.before.before in record { fits = part_fits s.args.at s.pre.0 16 (lit≤ tt) s.good.0.0 })
+    (λ c. let d = c.before.before in record { fits = four_times d.before.loop.t d.loop-test.true })
+    (λ c. let d = c.before.before in let s = start d in record { fits = mass_fits s.args.at s.pre.0 d.before.loop.t d.loop-test.true s.good.0.0 })
+    (λ c κs. let d = c.before.before in let s = start d in mass_room s.args.at s.pre.1 d.before.loop.t d.loop-test.true d.before.loop.invariant.3)
     (λ c κs. let d = c.before.before.before.before.before in ((start d).requires.0, d.loop-test.true))
     (λ c. let d = c.before.before.before.before.before.before.before in record { fits = as_byte d.before.loop.t d.loop-test.true })
     (λ c. let d = c.before.before.before.before.before.before.before in d.loop-test.true)
     (λ c. let d = begun c in record { fits = next_fits d.before.loop.t d.loop-test.taken })
-    (λ c. let d = begun c in fewer-left d.before.loop.t d.loop-test.taken)
+    (λ c. let d = begun c in fewer_left d.before.loop.t d.loop-test.taken)
     loop-again
     (λ c. c.before.loop.invariant.3)
     returns)

@@ -5,9 +5,9 @@ use native.Mathlib.Omega.{arith}
 use lib.Dec.{lit≤}
 use lib.Seq.{length-take-le}
 use Rattle.numbers.specs.Lists.{joined}
-use Rattle.order.specs.Repair.{recordHead, recordFrom, rewritten}
-use Rattle.order.proofs.Anew.{moved, two-written, head-written, part_room, part-fits, second-room}
-use Rattle.order.proofs.Records.{whole-at}
+use Rattle.order.specs.Repair.{record_head, record_from, rewritten}
+use Rattle.order.proofs.Anew.{moved, two_written, head_written, part_room, part_fits, second_room}
+use Rattle.order.proofs.Records.{whole_at}
 use Rattle.order.proofs.masses.write_record.Statement.{statement}
 use Rattle.order.proofs.masses.write_record.Tie as tie
 
@@ -36,12 +36,12 @@ returns c =
     let file = s.args.file.now in
     let at = s.args.at in
     let head =
-    head-written file s.args.out.now at s.pre.0 (λ i. omega (arith, (known second).shared-slice-known.given i))
+    head_written file s.args.out.now at s.pre.0 (λ i. omega (arith, (known second).shared-slice-known.given i))
     (first second).before.read_u64.ensures second.before.read-u642.ensures (first second).write-u64.ensures second.write-u642.ensures
     in (
       masses.write-masses.ensures.0,
-      two-written (recordHead (recordFrom file at)) (joined (moved file at s.args.places) 8) s.args.out.now at 16
-          (length-take-le 16 (recordFrom file at) (omega (arith, whole-at file at s.pre.0))) refl refl head masses.write-masses.ensures.1,
+      two_written (record_head (record_from file at)) (joined (moved file at s.args.places) 8) s.args.out.now at 16
+          (length-take-le 16 (record_from file at) (omega (arith, whole_at file at s.pre.0))) refl refl head masses.write-masses.ensures.1,
     )
 
 -- before the second eight bytes
@@ -54,10 +54,10 @@ write-record-spec =
     (tie.spec
     (λ c κs. let s = c.before.before.before in part_room s.args.at s.requires.0 8 (lit≤ tt))
     (λ c κs. let s = c.before.before.before.before in part_room s.args.at s.requires.1 8 (lit≤ tt))
-    (λ c. let s = start c in record { fits = part-fits s.args.at s.pre.0 8 (lit≤ tt) s.good.0.0 })
-    (λ c. let s = start c in record { fits = part-fits s.args.at s.pre.0 8 (lit≤ tt) s.good.0.0 })
-    (λ c κs. let s = start c in second-room s.args.at s.pre.0 refl)
-    (λ c κs. let s = start c.before in second-room s.args.at s.pre.1 c.before.before.before.before.write-u64.auto.0)
+    (λ c. let s = start c in record { fits = part_fits s.args.at s.pre.0 8 (lit≤ tt) s.good.0.0 })
+    (λ c. let s = start c in record { fits = part_fits s.args.at s.pre.0 8 (lit≤ tt) s.good.0.0 })
+    (λ c κs. let s = start c in second_room s.args.at s.pre.0 refl)
+    (λ c κs. let s = start c.before in second_room s.args.at s.pre.1 c.before.before.before.before.write-u64.auto.0)
     write-masses-requires
     (λ c. let second = c.before.before.before.before.before.before in c.before.before.write-masses.auto.1.1.1.0 ∙ second.write-u642.auto.0 ∙ (first second).write-u64.auto.0)
     returns)

@@ -10,7 +10,7 @@ use borrow.Author.Rules.{rules}
 use lib.ListN.{length, get_or, set, length-set}
 use lib.Seq.{get_or-set_same, get_or-set_other}
 use Rattle.order.specs.Order.{is_order}
-use Rattle.order.proofs.Named.{eight-bytes, type_at, apart, places-are}
+use Rattle.order.proofs.Named.{eight_bytes, type_at, apart, places_are}
 use Rattle.order.proofs.places.places_of.Statement.{statement}
 use Rattle.order.proofs.places.places_of.Tie as tie
 
@@ -53,11 +53,11 @@ returns : tie.Need-returns invariant-loop decreases-loop
 returns c =
     let loop = c.before.loop in
     let s = c.before.before in
-    places-are s.args.order.now s.requires loop.places loop.invariant.1 (λ p l. loop.invariant.2 p (omega arith))
+    places_are s.args.order.now s.requires loop.places loop.invariant.1 (λ p l. loop.invariant.2 p (omega arith))
 
 pub places-of-spec : {M : Type 1} → statement M
 places-of-spec =
     tie.close
     (tie.spec invariant-loop decreases-loop (λ c. (omega arith, refl, λ q l. absurd (omega arith)))
-    (λ c. omega (arith, eight-bytes c.before.before.before.args.order.now c.before.before.before.requires)) (λ c. (here c).0)
+    (λ c. omega (arith, eight_bytes c.before.before.before.args.order.now c.before.before.before.requires)) (λ c. (here c).0)
     (λ c. omega (arith, (here c).1)) (λ c. omega (arith, (here c).1)) (λ c. omega (arith, (here c).0, (here c).1)) (λ c. search rules) (λ c. search rules) loop-again returns)

@@ -10,31 +10,31 @@ use lib.ListN.{length, get_or, set}
 use lib.Seq.{sets, length-sets}
 use Rattle.numbers.specs.Eight.{one, sum_of}
 use Rattle.numbers.specs.Lists.{joined}
-use Rattle.numbers.proofs.Eight.{sum_more, sum-most}
-use Rattle.numbers.proofs.Joined.{joined-more}
-use Rattle.order.specs.Order.{eightBits}
-use Rattle.order.specs.Repair.{rewritten, isOther, recordIn, numberOfRecords}
-use Rattle.order.proofs.Bits.{eight-most, ones-bits}
-use Rattle.order.proofs.Records.{whole-record, rewritten-length}
+use Rattle.numbers.proofs.Eight.{sum_more, sum_most}
+use Rattle.numbers.proofs.Joined.{joined_more}
+use Rattle.order.specs.Order.{eight_bits}
+use Rattle.order.specs.Repair.{rewritten, is_other, record_in, number_of_records}
+use Rattle.order.proofs.Bits.{eight_most, ones_bits}
+use Rattle.order.proofs.Records.{whole_record, rewritten_length}
 use Rattle.order.proofs.rewrite.rewrite.Statement.{statement}
 use Rattle.order.proofs.rewrite.rewrite.Tie as tie
 
 module _ (file places : List ℕ) where
   abbrev other : ℕ → ℕ → Bool
-  other q = isOther (λ u. get_or places u 0) (recordIn file q)
+  other q = is_other (λ u. get_or places u 0) (record_in file q)
 
   abbrev anew : ℕ → List ℕ
-  anew q = rewritten (λ u. get_or places u 0) (recordIn file q)
+  anew q = rewritten (λ u. get_or places u 0) (record_in file q)
 
   abbrev byte : ℕ → List ℕ
-  byte q = eightBits (other q) ∷ []
+  byte q = eight_bits (other q) ∷ []
 
   abbrev bits : ℕ → ℕ
   bits q = sum_of (λ t. one (other q t)) 8
 
 abbrev invariant-loop : tie.invariant-loop
 invariant-loop file places out₀ report₀ count changed₀ q₀ out report changed q =
-    (q ≤ numberOfRecords file)
+    (q ≤ number_of_records file)
     × (out ≡ sets out₀ 0 (joined (anew file places) q))
     × (report ≡ sets report₀ 0 (joined (byte file places) q))
     × (changed ≡ sum_of (bits file places) q)
@@ -42,7 +42,7 @@ invariant-loop file places out₀ report₀ count changed₀ q₀ out report cha
     × (length report ≡ length report₀)
 
 abbrev decreases-loop : tie.decreases-loop
-decreases-loop file places out₀ report₀ count changed₀ q₀ out report changed q = numberOfRecords file - q
+decreases-loop file places out₀ report₀ count changed₀ q₀ out report changed q = number_of_records file - q
 
 abbrev start : tie.In-loop invariant-loop decreases-loop → tie.Start invariant-loop decreases-loop
 start c = c.before.before.before.before.before
@@ -50,15 +50,15 @@ start c = c.before.before.before.before.before
 abbrev begun : tie.After-ones-in invariant-loop decreases-loop → tie.In-loop invariant-loop decreases-loop
 begun c = c.before.before.before.before.before
 
-each-whole : (c : tie.Start invariant-loop decreases-loop) → (q : ℕ) → q < numberOfRecords c.args.file.now → length (anew c.args.file.now c.args.places q) ≡ 48
-each-whole c q l = rewritten-length (recordIn c.args.file.now q) (whole-record c.args.file.now q l) (λ u. get_or c.args.places u 0) c.requires.2
+each_whole : (c : tie.Start invariant-loop decreases-loop) → (q : ℕ) → q < number_of_records c.args.file.now → length (anew c.args.file.now c.args.places q) ≡ 48
+each_whole c q l = rewritten_length (record_in c.args.file.now q) (whole_record c.args.file.now q l) (λ u. get_or c.args.places u 0) c.requires.2
 
 -- how many bits the record's byte of the report has
 counted : (c : tie.After-ones-in invariant-loop decreases-loop) → let s = (start (begun c)).args in c.ones_in_lem.result ≡ bits s.file.now s.places (begun c).before.loop.q
-unfolding eightBits
+unfolding eight_bits
 counted c =
     let s = (start (begun c)).args in
-    c.ones_in_lem.ensures.0 ∙ ap ones c.before.before.before.write-record.ensures.0 ∙ ones-bits (other s.file.now s.places (begun c).before.loop.q) 8
+    c.ones_in_lem.ensures.0 ∙ ap ones c.before.before.before.write-record.ensures.0 ∙ ones_bits (other s.file.now s.places (begun c).before.loop.q) 8
 
 loop-again : tie.Need-loop-preserved invariant-loop decreases-loop
 loop-again c =
@@ -73,8 +73,8 @@ loop-again c =
     let place : 0 + 1 * q ≡ q = omega arith in
     let anew-at : wrote.new.1.1.1.0 ≡ sets loop.out (0 + 48 * q) (anew file places q) = rw start-at wrote.ensures.1 in
     let noted : set loop.report q wrote.result ≡ sets loop.report (0 + 1 * q) (byte file places q) = rw place (ap (set loop.report q) wrote.ensures.0) in
-    let out = joined-more (anew file places) 48 (numberOfRecords file) (each-whole s) q loop.inv.0 s.args.out.now 0 loop.inv.1 anew-at in
-    let report = joined-more (byte file places) 1 (numberOfRecords file) (λ t l. refl) q loop.inv.0 s.args.report.now 0 loop.inv.2 noted in (
+    let out = joined_more (anew file places) 48 (number_of_records file) (each_whole s) q loop.inv.0 s.args.out.now 0 loop.inv.1 anew-at in
+    let report = joined_more (byte file places) 1 (number_of_records file) (λ t l. refl) q loop.inv.0 s.args.report.now 0 loop.inv.2 noted in (
       omega arith,
       out,
       report,
@@ -86,13 +86,13 @@ loop-again c =
 returns : tie.Need-returns invariant-loop decreases-loop
 returns c =
     let loop = c.before.loop in
-    let all : loop.q ≡ numberOfRecords c.before.before.before.before.before.args.file.now = omega arith in
+    let all : loop.q ≡ number_of_records c.before.before.before.before.before.args.file.now = omega arith in
     rw (← all) (loop.invariant.3, (loop.invariant.1, loop.invariant.2))
 
 few : (c : tie.After-ones-in invariant-loop decreases-loop) → (begun c).before.loop.changed ≤ (begun c).before.loop.q * 8
 few c =
     let s = (start (begun c)).args in
-    let most = sum-most (bits s.file.now s.places) 8 (begun c).before.loop.q (λ q l. eight-most (other s.file.now s.places q)) in
+    let most = sum_most (bits s.file.now s.places) 8 (begun c).before.loop.q (λ q l. eight_most (other s.file.now s.places q)) in
     omega (arith, (begun c).before.loop.invariant.3, most)
 
 pub rewrite-spec : {M : Type 1} → statement M

@@ -7,13 +7,13 @@ use borrow.Author.Tests.{ne_eqb}
 use lib.Dec.{eqb}
 use lib.ListN.{take}
 use lib.Seq.{take_all}
-use Rattle.order.specs.Order.{eightBits, timesNamed, is_order, typesSeen}
-use Rattle.order.proofs.Named.{seen_more, full-set}
+use Rattle.order.specs.Order.{eight_bits, times_named, is_order, types_seen}
+use Rattle.order.proofs.Named.{seen_more, full_set}
 use Rattle.order.proofs.types.is_order.Statement.{statement}
 use Rattle.order.proofs.types.is_order.Tie as tie
 
 abbrev invariant-loop : tie.invariant-loop
-invariant-loop order seen₀ p₀ seen p = (p ≤ 8) × (seen ≡ typesSeen (take p order))
+invariant-loop order seen₀ p₀ seen p = (p ≤ 8) × (seen ≡ types_seen (take p order))
 
 abbrev decreases-loop : tie.decreases-loop
 decreases-loop order seen₀ p₀ seen p = 8 - p
@@ -23,7 +23,7 @@ unfolding is_order
 returns c = rw (ne_eqb _ 8 c.if1.true)
 
 loop-holds : tie.Need-loop-init invariant-loop decreases-loop
-unfolding typesSeen eightBits timesNamed
+unfolding types_seen eight_bits times_named
 loop-holds c = (search rules, refl)
 
 loop-again : tie.Need-loop-preserved invariant-loop decreases-loop
@@ -37,7 +37,7 @@ returns-2 c =
     let order = c.before.before.before.before.args.order.now in
     let loop = c.before.loop in
     let seen = rw (take_all loop.p order (omega arith)) at loop.invariant.1 in
-    ap (λ (types : ℕ). eqb types 255) seen ∙ full-set order c.before.before.if1.false
+    ap (λ (types : ℕ). eqb types 255) seen ∙ full_set order c.before.before.if1.false
 
 pub is-order-spec : {M : Type 1} → statement M
 is-order-spec =

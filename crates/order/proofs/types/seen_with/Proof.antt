@@ -5,16 +5,16 @@ use native.Mathlib.Omega.{arith}
 use borrow.Author.Rules.{rules}
 use lib.Bits.{bit_or, or_zero_r}
 use lib.Dec.{eqb}
-use Rattle.order.specs.Order.{eightBits}
-use Rattle.order.proofs.Bits.{bit-of, bit-of-none}
+use Rattle.order.specs.Order.{eight_bits}
+use Rattle.order.proofs.Bits.{bit_of_lem, bit_of_none}
 use Rattle.order.proofs.types.seen_with.Statement.{statement}
 use Rattle.order.proofs.types.seen_with.Tie as tie
 
-adds-nothing : (seen byte : ℕ) → ((k : ℕ) → k < 8 → byte ≡ k + 1 → ⊥) → seen ≡ bit_or seen (eightBits (λ k. eqb byte (k + 1)))
-adds-nothing seen byte h = sym (ap (bit_or seen) (bit-of-none byte h) ∙ or_zero_r seen)
+adds-nothing : (seen byte : ℕ) → ((k : ℕ) → k < 8 → byte ≡ k + 1 → ⊥) → seen ≡ bit_or seen (eight_bits (λ k. eqb byte (k + 1)))
+adds-nothing seen byte h = sym (ap (bit_or seen) (bit_of_none byte h) ∙ or_zero_r seen)
 
 pub seen-with-spec : {M : Type 1} → statement M
 seen-with-spec =
     tie.close
     (tie.spec (λ c. adds-nothing _ _ (λ k l e. omega arith)) (λ c. adds-nothing _ _ (λ k l e. omega arith)) (λ c. search rules) (λ c. search rules)
-    (λ c. let a = c.before.before.args in ap (bit_or a.seen) (bit-of a.byte (omega arith) (omega arith))))
+    (λ c. let a = c.before.before.args in ap (bit_or a.seen) (bit_of_lem a.byte (omega arith) (omega arith))))

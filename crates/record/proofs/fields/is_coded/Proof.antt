@@ -1,13 +1,13 @@
 -- The four tests, one after the other.
 use mathlib.Core.Bool.{and-true}
 use borrow.Author.Rules.{rules}
-use Rattle.record.specs.Fields.{zerosOf}
+use Rattle.record.specs.Fields.{zeros_of}
 use Rattle.record.specs.Ranges.{coded}
 use Rattle.record.proofs.fields.is_coded.Statement.{statement}
 use Rattle.record.proofs.fields.is_coded.Tie as tie
 
 returns : tie.Need-returns
-unfolding coded zerosOf
+unfolding coded zeros_of
 returns c =
     simp (
       c.is-kind.ensures,

@@ -6,13 +6,13 @@ use native.Mathlib.Omega.{arith}
 use borrow.Author.Rules.{rules}
 use lib.Dec.{leb}
 use lib.ListN.{length, get_or, drop, drop_of_length-le}
-use Rattle.reductions.specs.Stretch.{mostGrams, gramsLight}
-use Rattle.reductions.proofs.Entries.{light-on}
+use Rattle.reductions.specs.Stretch.{most_grams, grams_light}
+use Rattle.reductions.proofs.Entries.{light_on}
 use Rattle.reductions.proofs.grams.are_light.Statement.{statement}
 use Rattle.reductions.proofs.grams.are_light.Tie as tie
 
 abbrev invariant-loop : tie.invariant-loop
-invariant-loop grams all₀ i₀ all i = (i ≤ length grams) × (gramsLight grams ≡ (all && gramsLight (drop i grams)))
+invariant-loop grams all₀ i₀ all i = (i ≤ length grams) × (grams_light grams ≡ (all && grams_light (drop i grams)))
 
 abbrev decreases-loop : tie.decreases-loop
 decreases-loop grams all₀ i₀ all i = length grams - i
@@ -22,12 +22,12 @@ loop-again c =
     let s = c.before.before in
     let grams = s.before.args.grams.now in (
       search rules,
-      s.loop.invariant.1 ∙ rw (light-on grams s.loop.i (search rules)) (sym (and_assoc s.loop.all (leb (get_or grams s.loop.i 0) mostGrams) (gramsLight (drop (s.loop.i + 1) grams)))),
+      s.loop.invariant.1 ∙ rw (light_on grams s.loop.i (search rules)) (sym (and_assoc s.loop.all (leb (get_or grams s.loop.i 0) most_grams) (grams_light (drop (s.loop.i + 1) grams)))),
     )
 
 -- nothing is left
 returns : tie.Need-returns invariant-loop decreases-loop
-unfolding gramsLight
+unfolding grams_light
 returns c =
     let s = c.before in
     sym (s.loop.invariant.1 ∙ rw (drop_of_length-le s.before.args.grams.now {i = s.loop.i} (search rules)) (and-true s.loop.all))

@@ -1,7 +1,7 @@
 -- Three differences, one after the other; each is at most all four numbers together.
 use native.Mathlib.Omega.{arith}
 use borrow.Author.Rules.{rules}
-use Rattle.reductions.specs.Stretch.{lessAll}
+use Rattle.reductions.specs.Stretch.{less_all}
 use Rattle.reductions.proofs.Sizes.{signed_back, same_size}
 use Rattle.reductions.proofs.grams.less_all.Statement.{statement}
 use Rattle.reductions.proofs.grams.less_all.Tie as tie
@@ -14,7 +14,7 @@ less-3 c κs =
     omega (arith, same_size c.less2.result c.less2.type-inv, same_size c.before.less.result c.before.less.type-inv, same_size c.before.before.signed.result c.before.before.signed.type-inv)
 
 returns : tie.Need-returns
-unfolding lessAll
+unfolding less_all
 returns c =
     let third = c.before in
     let second = third.before in

@@ -1,11 +1,11 @@
 -- Each figure and both bounds are the definition's, and small.
 use borrow.Author.Rules.{rules}
-use Rattle.reductions.specs.Year.{referenceOf, projectOf, projectBound, referenceBound, bounds_of, withYear}
+use Rattle.reductions.specs.Year.{reference_of, project_of, project_bound, reference_bound, bounds_of, with_year}
 use Rattle.reductions.proofs.year.with_year.Statement.{statement}
 use Rattle.reductions.proofs.year.with_year.Tie as tie
 
 pub with-year-spec : {M : Type 1} → statement M
-unfolding withYear referenceOf projectOf bounds_of referenceBound projectBound
+unfolding with_year reference_of project_of bounds_of reference_bound project_bound
 with-year-spec =
     tie.close
     (tie.spec (λ c κs. search rules) (λ c κs. search rules) (λ c κs. search rules) (λ c κs. search rules) (λ c. search rules) (λ c. search rules)

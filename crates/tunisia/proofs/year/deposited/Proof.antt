@@ -5,12 +5,12 @@ use native.Mathlib.Omega.{arith}
 use borrow.Author.Rules.{rules}
 use lib.ListN.{get_or}
 use Rattle.numbers.proofs.Eight.{filled, filled_more}
-use Rattle.record.specs.Fields.{depositOf}
+use Rattle.record.specs.Fields.{deposit_of}
 use Rattle.tunisia.proofs.year.deposited.Statement.{statement}
 use Rattle.tunisia.proofs.year.deposited.Tie as tie
 
 abbrev invariant-loop : tie.invariant-loop
-invariant-loop bytes brought all₀ t₀ all t = (t ≤ 8) × (all ≡ filled (λ u. get_or brought u 0 + depositOf bytes u) t)
+invariant-loop bytes brought all₀ t₀ all t = (t ≤ 8) × (all ≡ filled (λ u. get_or brought u 0 + deposit_of bytes u) t)
 
 abbrev decreases-loop : tie.decreases-loop
 decreases-loop bytes brought all₀ t₀ all t = 8 - t
@@ -24,7 +24,7 @@ loop-again : tie.Need-loop-preserved invariant-loop decreases-loop
 loop-again c =
     let s = c.before.before in
     let a = s.before.before.args in
-    (omega arith, filled_more (λ u. get_or a.t1 u 0 + depositOf a.bytes.now u) s.loop.t s.loop.invariant.1 (rw c.deposit.ensures))
+    (omega arith, filled_more (λ u. get_or a.t1 u 0 + deposit_of a.bytes.now u) s.loop.t s.loop.invariant.1 (rw c.deposit.ensures))
 
 returns : tie.Need-returns invariant-loop decreases-loop
 returns c =

@@ -5,16 +5,16 @@ use native.Mathlib.Nat.{add-sub_cancel_left}
 use native.Mathlib.Omega.{arith}
 use borrow.Author.Rules.{rules}
 use lib.ListN.{length, drop}
-use Rattle.record.specs.Fields.{recordBytes}
-use Rattle.tunisia.specs.Walk.{walkedOver, AllReady}
-use Rattle.tunisia.proofs.Steps.{over-next, ready-next, over_none}
+use Rattle.record.specs.Fields.{record_bytes}
+use Rattle.tunisia.specs.Walk.{walked_over, AllReady}
+use Rattle.tunisia.proofs.Steps.{over_next, ready_next, over_none}
 use Rattle.tunisia.proofs.year.walk_over.Statement.{statement}
 use Rattle.tunisia.proofs.year.walk_over.Tie as tie
 
 abbrev invariant-loop : tie.invariant-loop
 invariant-loop file out count first last walked₀ at₀ left₀ walked at left =
-    (at + recordBytes * left ≡ recordBytes * count)
-    × (walkedOver first last count walked₀ file out ≡ walkedOver first last left walked (drop at file) (drop at out))
+    (at + record_bytes * left ≡ record_bytes * count)
+    × (walked_over first last count walked₀ file out ≡ walked_over first last left walked (drop at file) (drop at out))
     × AllReady first last left walked (drop at file) (drop at out)
 
 abbrev decreases-loop : tie.decreases-loop
@@ -25,7 +25,7 @@ some : (c : tie.In-loop invariant-loop decreases-loop) → c.before.loop.left �
 some c = omega arith
 
 fits : (c : tie.In-loop invariant-loop decreases-loop) → let s = c.before in let a = s.before.before.before.args in
-    (s.loop.at + recordBytes ≤ length a.file.now) × (s.loop.at + recordBytes ≤ length a.out.now)
+    (s.loop.at + record_bytes ≤ length a.file.now) × (s.loop.at + record_bytes ≤ length a.out.now)
 fits c =
     let s = c.before in
     let pre = s.before.before.before.requires.0 in
@@ -36,8 +36,8 @@ walk-on-requires c κs =
     let here = c.before.before in
     let s = here.before in
     let a = s.before.before.before.args in
-    rw (add-sub_cancel_left s.loop.at recordBytes)
-    (ready-next a.first a.last (s.loop.left - 1) s.loop.at s.loop.walked a.file.now a.out.now (rw (some here) at s.loop.invariant.2)).0
+    rw (add-sub_cancel_left s.loop.at record_bytes)
+    (ready_next a.first a.last (s.loop.left - 1) s.loop.at s.loop.walked a.file.now a.out.now (rw (some here) at s.loop.invariant.2)).0
 
 loop-again : tie.Need-loop-preserved invariant-loop decreases-loop
 loop-again c =
@@ -48,10 +48,10 @@ loop-again c =
     let x0 = c.before.before.read_u64.ensures in (
       omega (arith, s.loop.invariant.0, some here),
       (rw (some here) at s.loop.invariant.1)
-          ∙ rw (c.walk-on.ensures, add-sub_cancel_left s.loop.at recordBytes, x0)
-          (over-next a.first a.last (s.loop.left - 1) s.loop.at s.loop.walked all a.out.now),
-      rw (c.walk-on.ensures, add-sub_cancel_left s.loop.at recordBytes, x0)
-          (ready-next a.first a.last (s.loop.left - 1) s.loop.at s.loop.walked all a.out.now (rw (some here) at s.loop.invariant.2)).1,
+          ∙ rw (c.walk-on.ensures, add-sub_cancel_left s.loop.at record_bytes, x0)
+          (over_next a.first a.last (s.loop.left - 1) s.loop.at s.loop.walked all a.out.now),
+      rw (c.walk-on.ensures, add-sub_cancel_left s.loop.at record_bytes, x0)
+          (ready_next a.first a.last (s.loop.left - 1) s.loop.at s.loop.walked all a.out.now (rw (some here) at s.loop.invariant.2)).1,
     )
 
 -- no record is left

@@ -1,10 +1,10 @@
 -- The six tests, one after the other.
-use Rattle.uncertainty.specs.Uncertainty.{arePercentages}
+use Rattle.uncertainty.specs.Uncertainty.{are_percentages}
 use Rattle.uncertainty.proofs.Uncertainties.are_percentages.Statement.{statement}
 use Rattle.uncertainty.proofs.Uncertainties.are_percentages.Tie as tie
 
 returns : tie.Need-returns
-unfolding arePercentages
+unfolding are_percentages
 returns c =
     rw (
       c.is-percentage6.ensures,

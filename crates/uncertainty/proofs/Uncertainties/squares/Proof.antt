@@ -1,11 +1,11 @@
 -- Six numbers below 2^16 add up within 32 bits.
 use borrow.Author.Rules.{rules}
-use Rattle.uncertainty.specs.Uncertainty.{squaresOf}
+use Rattle.uncertainty.specs.Uncertainty.{squares_of}
 use Rattle.uncertainty.proofs.Uncertainties.squares.Statement.{statement}
 use Rattle.uncertainty.proofs.Uncertainties.squares.Tie as tie
 
 returns : tie.Need-returns
-unfolding squaresOf
+unfolding squares_of
 returns c = search rules
 
 pub squares-spec : {M : Type 1} → statement M

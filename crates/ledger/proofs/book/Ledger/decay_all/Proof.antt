@@ -4,29 +4,29 @@ use Prim.Native.Nat.{ℕ, ◌+◌, ◌*◌, ◌≤◌, ◌<◌}
 use native.Mathlib.Omega.{arith}
 use lib.Dec.{lit<}
 use borrow.Author.Rules.{rules}
-use Rattle.carbon.specs.Carbon.{mostBrought}
-use Rattle.ledger.specs.Step.{decayedAt}
+use Rattle.carbon.specs.Carbon.{most_brought}
+use Rattle.ledger.specs.Step.{decayed_at}
 use Rattle.ledger.specs.declared.period.Decayed.{Decayed}
-use Rattle.ledger.proofs.Settle.{all-decayed, seven-small, work-most}
-use Rattle.ledger.proofs.Accepted.{accepted-meets, new-small, no-carbon}
+use Rattle.ledger.proofs.Settle.{all_decayed, seven_small, work_most}
+use Rattle.ledger.proofs.Accepted.{accepted_meets, new_small, no_carbon}
 use Rattle.ledger.proofs.book.Ledger.decay_all.Statement.{statement}
 use Rattle.ledger.proofs.book.Ledger.decay_all.Tie as tie
 
 -- one type's release and decay work are small
 record Small (d : Decayed) : Type 0 where
-  release : d.release ≤ mostBrought
+  release : d.release ≤ most_brought
   work : d.work ≤ 1
 
-one : (s : tie.Start) {d : Decayed} (t : ℕ) → t < 8 → d ≡ decayedAt s.args.self s.args.bytes.now t → Small d
-unfolding decayedAt
+one : (s : tie.Start) {d : Decayed} (t : ℕ) → t < 8 → d ≡ decayed_at s.args.self s.args.bytes.now t → Small d
+unfolding decayed_at
 one s t h e =
     let l = s.args.self in
     let bytes = s.args.bytes.now in
-    rw e (record { release = (new-small l bytes (accepted-meets l bytes 48 s.requires.0) t h).G; work = work-most l bytes t })
+    rw e (record { release = (new_small l bytes (accepted_meets l bytes 48 s.requires.0) t h).G; work = work_most l bytes t })
 
 -- what the seven come to at most
 record AllSmall (c : tie.After-decay7) : Type 0 where
-  releases : c.before.before.before.before.before.before.decay.result.release + c.before.before.before.before.before.decay2.result.release + c.before.before.before.before.decay3.result.release + c.before.before.before.decay4.result.release + c.before.before.decay5.result.release + c.before.decay6.result.release + c.decay7.result.release ≤ 7 * mostBrought
+  releases : c.before.before.before.before.before.before.decay.result.release + c.before.before.before.before.before.decay2.result.release + c.before.before.before.before.decay3.result.release + c.before.before.before.decay4.result.release + c.before.before.decay5.result.release + c.before.decay6.result.release + c.decay7.result.release ≤ 7 * most_brought
   works : c.before.before.before.before.before.before.decay.result.work + c.before.before.before.before.before.decay2.result.work + c.before.before.before.before.decay3.result.work + c.before.before.before.decay4.result.work + c.before.before.decay5.result.work + c.before.decay6.result.work + c.decay7.result.work ≤ 7 * 1
 
 each : (c : tie.After-decay7) → AllSmall c
@@ -40,8 +40,8 @@ each c =
     let g = one s 6 (lit< tt) c.before.decay6.ensures in
     let h = one s 7 (lit< tt) c.decay7.ensures in
     record {
-      releases = seven-small a.release b.release d.release e.release f.release g.release h.release;
-      works = seven-small a.work b.work d.work e.work f.work g.work h.work;
+      releases = seven_small a.release b.release d.release e.release f.release g.release h.release;
+      works = seven_small a.work b.work d.work e.work f.work g.work h.work;
     }
 
 returns : tie.Need-returns
@@ -50,7 +50,7 @@ returns c =
     let s = d.before.before.before.before.before.before.before.before in
     let l = s.args.self in
     let bytes = s.args.bytes.now in
-    all-decayed l bytes (no-carbon l bytes (accepted-meets l bytes 48 s.requires.0)) d.before.before.before.before.before.before.decay.ensures d.before.before.before.before.before.decay2.ensures d.before.before.before.before.decay3.ensures
+    all_decayed l bytes (no_carbon l bytes (accepted_meets l bytes 48 s.requires.0)) d.before.before.before.before.before.before.decay.ensures d.before.before.before.before.before.decay2.ensures d.before.before.before.before.decay3.ensures
     d.before.before.before.decay4.ensures d.before.before.decay5.ensures d.before.decay6.ensures d.decay7.ensures
 
 pub decay-all-spec : {M : Type 1} → statement M

@@ -1,12 +1,12 @@
 -- Each factor at its place.
 use lib.Dec.{lit<}
 use borrow.Author.Rules.{Fits-under}
-use Rattle.record.specs.Fields.{factorsOf}
+use Rattle.record.specs.Fields.{factors_of}
 use Rattle.record.proofs.factors.Factors.of.Statement.{statement}
 use Rattle.record.proofs.factors.Factors.of.Tie as tie
 
 returns : tie.Need-returns
-unfolding factorsOf
+unfolding factors_of
 returns c =
     let b5 = c.before in
     let b3 = b5.before.before in
