@@ -1,5 +1,6 @@
 // Standard input, read to its end into bytes that the caller lends: there is no heap.
 // The programs `listing` and `repair` call it.
+#![tactic(auto)]
 ghost use Rattle.io.specs.Counts.{IsPrefixLen};
 
 use libc::STDIN_FILENO;

@@ -1,5 +1,6 @@
 // The entries for software that links the ledger from C: numbers and byte slices in, numbers and lent bytes out.
 // include/landfill.h is their description for the caller; each is thin over the proved crates.
+#![tactic(auto)]
 ghost use Rattle.std.specs.Prelude.{cond, ◌≡◌, eqb, length};
 ghost use Rattle.door.specs.Point.{charted_of};
 ghost use Rattle.decay.specs.Series.{entry_of};

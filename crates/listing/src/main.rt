@@ -1,5 +1,6 @@
 // The program `listing`: the last part of document 01's section 'Worked figures'.
 // It reads records from standard input and writes what `lines::listing` says of them to standard output.
+#![tactic(auto)]
 use libc::STDOUT_FILENO;
 
 // Lists standard input, or says on standard error what failed; nothing is listed of an input that was not read to its end.

@@ -1,5 +1,5 @@
 -- One thing more at the end of a list: its length, what is added over it, and what is said of each of it; and each thing by its place.
-use mathlib.Core.Path.{◌≡◌, sym, ◌∙◌}
+use mathlib.Core.Path.{◌≡◌, sym, ◌∙◌, subst}
 use mathlib.Core.List.{List, [], ◌∷◌, ◌++◌, map}
 use Prim.Native.Nat.{ℕ, zero, suc, ◌+◌, ◌≤◌, ◌<◌}
 use native.Mathlib.Nat.{add-zero}
@@ -55,5 +55,6 @@ pub each_of_map : {A : Type 0} (f : A → ℕ) (done : List ℕ) (xs : List A) (
 each_of_map f done [] rest i e = tt
 each_of_map f done (x ∷ xs) rest i e = (
   get_or_at done (f x) (map f xs ++ rest) 0 i e,
-  rw (← append_snoc done (f x) (map f xs ++ rest)) (each_of_map f (done ++ (f x ∷ [])) xs rest (i + 1) (omega (arith, length_more done (f x), e))),
+  subst (λ (l : List ℕ). Each (λ j y. get_or l j 0 ≡ f y) (i + 1) xs) (append_snoc done (f x) (map f xs ++ rest))
+  (each_of_map f (done ++ (f x ∷ [])) xs rest (i + 1) (omega (arith, length_more done (f x), e))),
 )

@@ -1,5 +1,7 @@
 // Whole-number arithmetic that no section of document 01 owns: multiply-and-divide, numbers as little-endian bytes, tests.
 // The crates above call it; most of it asks that what it works out fits, so none of it is for a user to call.
+#![tactic(auto)]
+
 mod copy;
 mod le;
 mod ratio;

@@ -1,6 +1,7 @@
 // Words of plain text on standard output, for a program whose lines are compared: numbers, the bits of floats, and bytes; and the
 // buffers that its cases lend, so that what a call leaves in them can be seen.
 // A write that fails is passed over. What stands on standard output no contract can say: each that prints answers nothing.
+#![tactic(auto)]
 ghost use Rattle.std.specs.Prelude.{◌≡◌, ◌<◌};
 
 use libc::STDOUT_FILENO;

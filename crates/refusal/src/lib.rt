@@ -1,5 +1,6 @@
 // The refusals of a record by their numbers: 'Refusal numbers' of document 01. The ledger asks it, with its own n, kind, climate
 // and year.
+#![tactic(auto)]
 mod lengths;
 
 ghost use Rattle.std.specs.Prelude.{cond, ◌≡◌, eqb};

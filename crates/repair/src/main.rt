@@ -1,6 +1,7 @@
 // The program `repair`, for a support desk: request g of document 02.
 // It reads a file of records from standard input and writes what `order::repair` makes of it, or a line for each record that this
 // changes, to standard output; a short account of it goes to standard error.
+#![tactic(auto)]
 mod account;
 mod arguments;
 

@@ -1,5 +1,6 @@
 // The model correction factor worked out from uncertainties: option 2 of source 000, its equations (3) and (4).
 // It serves request d of document 02, and is called by the package whose users choose that option.
+#![tactic(auto)]
 ghost use Rattle.std.specs.Prelude.{◌≡◌, ◌*◌, ◌^◌, ◌≤◌, ◌<◌};
 ghost use Rattle.uncertainty.specs.Uncertainty.{is_percentage, are_percentages, squares_of, most_squares, allows, factor_for, is_code, are_codes, chosen, chosen_by, no_factor, by_percentages, by_codes};
 

@@ -1,5 +1,6 @@
 // The eight waste types by their fixed numbers, and the codes of kinds, climates and site classes: 'Waste types and their constants' of
 // document 01. The ledger looks its constants up here, the door and the samples their limit. A number that names nothing has 0.
+#![tactic(auto)]
 ghost use Rattle.std.specs.Prelude.{◌∷◌, ◌≡◌, ◌+◌};
 ghost use Rattle.numbers.specs.Eight.{eight};
 ghost use Rattle.waste.specs.Kind.{is_kind};

@@ -1,4 +1,5 @@
 // The factors that the months of one year share: request c of document 02. The ledger remembers them, and the refusals ask.
+#![tactic(auto)]
 ghost use Rattle.std.specs.Prelude.{◌≡◌};
 ghost use Rattle.year_factors.specs.YearFactors.{year_of, no_year, repeats, shares, remembered, year_in_range, sound_year};
 

@@ -1,5 +1,6 @@
 // The slots of a buffer of yearly totals, one for each year of a monthly ledger: request l of document 02. `yearly_totals` calls it, with
 // the number n of months before a record, whose period is then n + 1.
+#![tactic(auto)]
 ghost use Rattle.std.specs.Prelude.{◌≡◌, ◌+◌, ◌*◌, ◌^◌, ◌≤◌, ◌<◌, length};
 ghost use Rattle.std.proofs.lemmas.List.Edits.{sets};
 ghost use Rattle.record.specs.Fields.{record_bytes};
