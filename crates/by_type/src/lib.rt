@@ -3,7 +3,7 @@
 #![tactic(auto)]
 
 // The refusal, 0 if none, and the carbon left of the eight types after the last record, in mg.
-#[derive(Drop)]
+#[derive(Clone, Copy)]
 pub struct Filled {
     pub refusal: u8,
     pub stocks: [u64; 8],

@@ -7,14 +7,14 @@ ghost use Rattle.std.specs.Float.Ieee.Exact.{HasValue};
 ghost use Rattle.door.specs.Cell.{answer_to, answer_to_number, numbers_of, whole_of};
 
 // Empty, or a number of kilograms.
-#[derive(Drop)]
+#[derive(Clone, Copy)]
 pub enum Cell {
     Empty,
     Number(f64),
 }
 
 // The mass of a cell in kilograms, or why the cell is refused.
-#[derive(Drop)]
+#[derive(Clone, Copy)]
 pub enum Weighed {
     Mass(u32),
     EmptyCell,
@@ -23,7 +23,7 @@ pub enum Weighed {
 }
 
 // The number of the refusal, 0 if none, and the mass in kilograms, 0 if refused.
-#[derive(Drop)]
+#[derive(Clone, Copy)]
 pub struct Numbers {
     pub refusal: u8,
     pub mass: u32,

@@ -7,7 +7,7 @@ ghost use Rattle.door.specs.Point.{charted_of};
 pub const EXACT: u64 = 9_007_199_254_740_992;
 
 // A figure with its low edge and its high edge, in grams CO2e.
-#[derive(Drop)]
+#[derive(Clone, Copy)]
 pub struct Point {
     pub figure: f64,
     pub low: f64,
@@ -15,7 +15,7 @@ pub struct Point {
 }
 
 // A point with refusal 0, or the number of the refusal with a point that is all zero.
-#[derive(Drop)]
+#[derive(Clone, Copy)]
 pub struct Charted {
     pub point: Point,
     pub refusal: u8,

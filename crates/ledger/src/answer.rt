@@ -4,7 +4,7 @@ use output::Output;
 
 // The ledger that comes back, the refusal (0 if none), and of an accepted record the eight releases in mg, their sum x0 in mg,
 // the figure and its bound in grams CO2e.
-#[derive(Drop)]
+#[derive(Clone, Copy)]
 pub struct Answer {
     pub ledger: Ledger,
     pub refusal: u8,
@@ -15,7 +15,7 @@ pub struct Answer {
 }
 
 // The ledger after an accepted record, what its output record says, and the record's decay work.
-#[derive(Drop)]
+#[derive(Clone, Copy)]
 pub struct Entered {
     pub ledger: Ledger,
     pub says: Output,
@@ -23,7 +23,7 @@ pub struct Entered {
 }
 
 // The refusal (3 for an unsound ledger, else 0), and the carbon left, brought in and released so far over all types, in mg.
-#[derive(Drop)]
+#[derive(Clone, Copy)]
 pub struct Totals {
     pub refusal: u8,
     pub stock: u64,

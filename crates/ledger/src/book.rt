@@ -15,7 +15,7 @@ use year_factors::YearFactors;
 
 // One site's ledger: the number n of accepted records, their kind and climate, what a monthly one remembers of its year, and for each
 // type the carbon brought in (T), the carbon left (R) and the carbon released so far, in whole milligrams. Place 0 of a list is type 1.
-#[derive(Drop)]
+#[derive(Clone, Copy)]
 pub struct Ledger {
     pub n: u16,
     pub kind: u8,

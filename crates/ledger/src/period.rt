@@ -3,7 +3,7 @@ ghost use Rattle.std.specs.Prelude.{◌≡◌, ltb};
 ghost use Rattle.numbers.specs.Eight.{one};
 
 // One type after a record: the carbon brought in, the carbon left, the carbon that the record released, and the decay work.
-#[derive(Drop)]
+#[derive(Clone, Copy)]
 pub struct Decayed {
     pub brought: u64,
     pub stock: u64,
@@ -12,7 +12,7 @@ pub struct Decayed {
 }
 
 // The eight types after a record, x0, their releases added, and their decay work added.
-#[derive(Drop)]
+#[derive(Clone, Copy)]
 pub struct Period {
     pub brought: [u64; 8],
     pub stock: [u64; 8],

@@ -11,7 +11,7 @@ use Rattle.line.specs.declared.form.Line.{Line}
 use Rattle.line.specs.Line.{decimal_of, line_bytes, padded, Lendable}
 use Rattle.line.specs.Writing.{Writes}
 use Rattle.line.proofs.Decimal.{last_digits, all_digits}
-use Rattle.line.proofs.Line.{line_lendable}
+use Rattle.line.proofs.LineLaws.{line_lendable}
 
 -- What is copied is written.
 pub copied : (l : List ℕ) (at : ℕ) (xs : List ℕ) {r : List ℕ} → r ≡ sets l at xs → Writes l at xs r (at + length xs)

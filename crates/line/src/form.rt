@@ -4,7 +4,7 @@
 pub const BYTES: usize = 90;
 
 // The first len bytes are its text; the unused bytes are 0.
-#[derive(Drop)]
+#[derive(Clone, Copy)]
 pub struct Line {
     pub bytes: [u8; BYTES],
     pub len: usize,

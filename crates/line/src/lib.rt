@@ -1,6 +1,7 @@
 // The lines that the listing prints, one for each accepted record and the one of a refusal.
 // It serves the last part of document 01's section 'Worked figures'; `lines` puts them together.
 #![tactic(auto)]
+
 mod form;
 mod text;
 

@@ -22,7 +22,7 @@ pub const FILE: usize = record::BYTES * LINES;
 pub const TEXT: usize = line::BYTES * LINES;
 
 // How many bytes the listing has, and the refusal: 2 where the text has too little room, else 0.
-#[derive(Drop)]
+#[derive(Clone, Copy)]
 pub struct Listed {
     pub length: usize,
     pub refusal: u8,

@@ -10,7 +10,7 @@ mod rewrite;
 mod types;
 
 // The number of the refusal, 0 if none, and how many bits of the file's report are set, 0 if refused.
-#[derive(Drop)]
+#[derive(Clone, Copy)]
 pub struct Repaired {
     pub refusal: u8,
     pub changed: u64,

@@ -12,7 +12,7 @@ const REFERENCE_CLASS: u8 = 1;
 const PROJECT_CLASS: u8 = 2;
 
 // What the years of a stretch add up to, in grams CO2e.
-#[derive(Drop)]
+#[derive(Clone, Copy)]
 pub struct Sums {
     pub reference: u64,
     pub project: u64,

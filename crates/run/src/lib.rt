@@ -13,7 +13,7 @@ use ledger::{Ledger, are_sound};
 
 // The ledger after the last accepted record, how many records were accepted, the refusal of the next one, 0 if none, and the decay
 // work of the accepted ones.
-#[derive(Drop)]
+#[derive(Clone, Copy)]
 pub struct Outcome {
     pub ledger: Ledger,
     pub accepted: u64,
@@ -22,7 +22,7 @@ pub struct Outcome {
 }
 
 // How many records were accepted, and the refusal of the next one.
-#[derive(Drop)]
+#[derive(Clone, Copy)]
 struct End(u64, u8);
 
 // Answers the table entries of a run: those of its first record, which every later accepted record shares.

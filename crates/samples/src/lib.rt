@@ -20,14 +20,14 @@ const MOST_A_YEAR: u64 = 400;
 const A_MONTH: u64 = 3;
 
 // The number of the refusal, 0 if none, and the masses of types 1 to 8 in kilograms, 0 if refused.
-#[derive(Drop)]
+#[derive(Clone, Copy)]
 pub struct Sorted {
     pub refusal: u8,
     pub masses: [u32; 8],
 }
 
 // The fractions of each type added over some samples, and whether the last of these adds up.
-#[derive(Drop)]
+#[derive(Clone, Copy)]
 struct Added {
     fractions: [u32; 8],
     whole: bool,

@@ -14,7 +14,7 @@ use ledger::Ledger;
 use reductions::Sums;
 
 // What the years of the stretch add up to, how many years were accepted, and the refusal of the record after them, 0 if none.
-#[derive(Drop)]
+#[derive(Clone, Copy)]
 pub struct YearsTaken {
     pub sums: Sums,
     pub years: u64,

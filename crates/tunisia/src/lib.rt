@@ -13,7 +13,7 @@ use reductions::{all_grams, less_all, stretch_refusal};
 
 // The refusal of the stretch, 0 if none; reference, project, reduction and bound in grams CO2e; how many years were accepted, and the
 // refusal of the record after them, 0 if none.
-#[derive(Drop)]
+#[derive(Clone, Copy)]
 pub struct Reduction {
     pub refusal: u8,
     pub reference: u64,

@@ -10,7 +10,7 @@ use reductions::Sums;
 
 // Some years of a file, from its first on: how many, x0 of the last and T of the eight types after it in mg, and what those of the
 // stretch add up to.
-#[derive(Drop)]
+#[derive(Clone, Copy)]
 pub struct Walked {
     pub n: u16,
     pub x0: u64,

@@ -1,6 +1,7 @@
 // The model correction factor worked out from uncertainties: option 2 of source 000, its equations (3) and (4).
 // It serves request d of document 02, and is called by the package whose users choose that option.
 #![tactic(auto)]
+
 ghost use Rattle.std.specs.Prelude.{◌≡◌, ◌*◌, ◌^◌, ◌≤◌, ◌<◌};
 ghost use Rattle.uncertainty.specs.Uncertainty.{is_percentage, are_percentages, squares_of, most_squares, allows, factor_for, is_code, are_codes, chosen, chosen_by, no_factor, by_percentages, by_codes};
 
@@ -9,7 +10,7 @@ const FULL: u8 = 100;
 
 // The uncertainties of the masses (a), of DOC (b), DOCf (c), F (d), the methane correction factor (e) and the exponential term (g): in
 // whole percent, or c, d, e and g as codes that choose them.
-#[derive(Drop)]
+#[derive(Clone, Copy)]
 pub struct Uncertainties {
     pub a: u8,
     pub b: u8,
@@ -20,7 +21,7 @@ pub struct Uncertainties {
 }
 
 // The number of the refusal, 0 if none, and the factor in percent, 0 if refused.
-#[derive(Drop)]
+#[derive(Clone, Copy)]
 pub struct ModelFactor {
     pub refusal: u8,
     pub factor: u8,

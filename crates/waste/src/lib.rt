@@ -1,6 +1,7 @@
 // The eight waste types by their fixed numbers, and the codes of kinds, climates and site classes: 'Waste types and their constants' of
 // document 01. The ledger looks its constants up here, the door and the samples their limit. A number that names nothing has 0.
 #![tactic(auto)]
+
 ghost use Rattle.std.specs.Prelude.{◌∷◌, ◌≡◌, ◌+◌};
 ghost use Rattle.numbers.specs.Eight.{eight};
 ghost use Rattle.waste.specs.Kind.{is_kind};
@@ -54,6 +55,7 @@ fn industrial(m: u8) -> u16
 }
 
 // Answers the carbon content of a type, in hundredths of a percent of wet weight; m counts for sludge only.
+#[tactic(auto, unfolding(crate::specs::Waste::carbon_of))]
 pub fn carbon(waste: u8, m: u8) -> u16
     ensures { result ≡ carbon_of waste m }
 {
@@ -70,6 +72,7 @@ pub fn carbon(waste: u8, m: u8) -> u16
 }
 
 // Answers the rates of a type, by climate code.
+#[tactic(auto, unfolding(crate::specs::Waste::group_of))]
 fn group(waste: u8) -> [u16; CLIMATES + 1]
     ensures { result ≡ 0 ∷ group_of waste }
 {
@@ -132,6 +135,7 @@ pub fn is_class(class: u8) -> bool
 }
 
 // Answers the methane correction factor of a site class, in percent.
+#[tactic(auto, unfolding(crate::specs::Waste::correction_of))]
 pub fn correction(class: u8) -> u8
     ensures { result ≡ correction_of class }
 {

@@ -18,7 +18,7 @@ const SLOT: usize = 32;
 const SUM_LIMIT: u64 = 10000000000000000000;
 
 // A year's number, the months counted, and what they add up to: x0 in mg, figure and bound in grams CO2e.
-#[derive(Drop)]
+#[derive(Clone, Copy)]
 pub struct Slot {
     pub year: u64,
     pub months: u64,

@@ -5,7 +5,7 @@ use borrow.Author.Rules.{rules}
 use borrow.Author.Tests.{eq-eqb, ne_eqb}
 use Rattle.line.specs.Line.{refused_text}
 use Rattle.line.specs.Writing.{Writes}
-use Rattle.line.proofs.Line.{line_is}
+use Rattle.line.proofs.LineLaws.{line_is}
 use Rattle.lines.specs.Listing.{end_text}
 use Rattle.lines.specs.Outputs.{end_room}
 use Rattle.lines.proofs.writing.put_end.Statement.{statement}

@@ -5,7 +5,7 @@ use native.Mathlib.Numerals.{add-one}
 use native.Mathlib.Omega.{arith}
 use borrow.Author.Rules.{rules}
 use Rattle.line.specs.Writing.{Writes}
-use Rattle.line.proofs.Line.{line_is}
+use Rattle.line.proofs.LineLaws.{line_is}
 use Rattle.line.proofs.Writing.{write_on}
 use Rattle.lines.specs.Outputs.{output_text, output_lines}
 use Rattle.lines.proofs.writing.put_lines.Statement.{statement}
