@@ -1,0 +1,9 @@
+-- What was read lies within the file, and the turns left fall with every turn.
+use Rattle.std.proofs.Common.{length, ◌≡◌, ◌≤◌}
+use Rattle.input.proofs.read_all.Given as goal
+
+abbrev pub invariant-loop-length : goal.invariant-loop-length
+invariant-loop-length g l = (l.length ≤ length l.file) × (length l.file ≡ length l.initial.file)
+
+abbrev pub decreases-loop-length : goal.decreases-loop-length
+decreases-loop-length g l = l.turns
