@@ -48,6 +48,7 @@ pub fn captured(bytes: &[u8]) -> u16
 }
 
 // Answers the organic dry matter m of a type, in percent; 0 where its carbon content is the default.
+#[tactic(auto, unfolding(crate::specs::Fields::dry_of))]
 fn dry(bytes: &[u8], waste: u8) -> u8
     ensures { result ≡ dry_of bytes.now waste }
 {

@@ -1,6 +1,7 @@
 // One record: its fields, its factors as a value, its codes and ranges, and the carbon that it brings: 'One record' of document 01.
 // The ledger calls it. Any bytes may be asked: what is not there counts 0, so only 48 bytes are a record.
 #![tactic(auto)]
+
 mod bytes;
 mod factors;
 mod fields;

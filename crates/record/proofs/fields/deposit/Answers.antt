@@ -8,8 +8,7 @@ use borrow.Author.Rules.{rules}
 use lib.ListN.{get_or-eq_default}
 use Rattle.waste.specs.Waste.{carbons, carbon_of}
 use Rattle.record.specs.Fields.{dry_of, deposit_of}
-use Rattle.record.proofs.fields.deposit.Statement.{statement}
-use Rattle.record.proofs.fields.deposit.Tie as tie
+use Rattle.record.proofs.fields.deposit.Goals as goal
 
 no_type : (bytes t : _) → 7 < t → 0 ≡ deposit_of bytes t
 unfolding deposit_of carbon_of
@@ -18,15 +17,18 @@ no_type bytes t h =
     let none : carbon_of (t + 1) m ≡ 0 = get_or-eq_default (0 ∷ carbons m) 0 {n = t + 1} (omega arith) in
     rw none (omega arith)
 
-fits : (c : tie.After-carbon) → c.before.before.mass.result * c.carbon.result ≤ 2 ^ 32 * 2 ^ 16
+fits : (c : goal.After-carbon) → c.mass.result * c.carbon.result ≤ 2 ^ 32 * 2 ^ 16
 fits c = mul-le-mul {n₂ = 2 ^ 32} {m₂ = 2 ^ 16} (search rules) (search rules)
 
-returns-2 : tie.Need-returns-2
+pub returns : goal.returns
 unfolding deposit_of
-returns-2 c = rw (c.carbon.ensures, c.before.dry.ensures, c.before.before.mass.ensures)
+returns c = rw (c.carbon.ensures, c.dry.ensures, c.mass.ensures)
 
-pub deposit-spec : {M : Type 1} → statement M
-deposit-spec =
-    tie.close
-    (tie.spec (λ c. no_type _ _ c.if1.true) (λ c κs. tt) (λ c. search rules) (λ c. search rules) (λ c. search rules) (λ c κs. tt)
-    (λ c κs. tt) (λ c. search rules) (λ c. omega (arith, fits c)) (λ c. omega (arith, fits c)) returns-2)
+pub returns-then-t-gt7 : goal.returns-then-t-gt7
+returns-then-t-gt7 c = no_type _ _ c.if-t-gt7.true
+
+pub overflow_mul-result : goal.overflow_mul-result
+overflow_mul-result c = omega (arith, fits c)
+
+pub overflow_mul-result-2 : goal.overflow_mul-result-2
+overflow_mul-result-2 c = omega (arith, fits c)
