@@ -1,6 +1,7 @@
 // The decay table of document 01: what is left of 10^9 parts after one period, for each rate, by year and by month.
 // The ledger looks up the entries of a run once, before its first record.
 #![tactic(auto)]
+
 mod month;
 mod table;
 
