@@ -1,5 +1,6 @@
 // The output record of 48 bytes: 'One step' of document 01. The ledger writes it.
 #![tactic(auto)]
+
 ghost use Rattle.std.specs.Prelude.{◌≡◌, ◌≤◌, length};
 ghost use Rattle.std.proofs.lemmas.List.Edits.{sets};
 ghost use Rattle.record.specs.Fields.{record_bytes};

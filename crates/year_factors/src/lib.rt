@@ -1,5 +1,6 @@
 // The factors that the months of one year share: request c of document 02. The ledger remembers them, and the refusals ask.
 #![tactic(auto)]
+
 ghost use Rattle.std.specs.Prelude.{◌≡◌};
 ghost use Rattle.year_factors.specs.YearFactors.{year_of, no_year, repeats, shares, remembered, year_in_range, sound_year};
 
@@ -16,6 +17,7 @@ pub struct YearFactors {
 
 impl YearFactors {
     // Answers that none is remembered.
+    #[tactic(auto, unfolding(crate::specs::YearFactors::no_year))]
     pub fn none() -> YearFactors
         ensures { result ≡ no_year }
     {

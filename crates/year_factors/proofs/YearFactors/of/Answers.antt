@@ -1,0 +1,8 @@
+-- The three fields.
+use borrow.Author.Rules.{rules}
+use Rattle.year_factors.specs.YearFactors.{year_of}
+use Rattle.year_factors.proofs.YearFactors.of.Goals as goal
+
+pub returns : goal.returns
+unfolding year_of
+returns c = rw (c.class.ensures, c.captured.ensures, c.factor.ensures)
