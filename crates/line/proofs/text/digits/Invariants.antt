@@ -1,10 +1,8 @@
 -- The digits counted so far and those of the front are one more than all; a front below 100 has one digit, or two.
-use mathlib.Core.Path.{◌≡◌, ap}
-use Prim.Native.Nat.{◌+◌, ◌/◌, ◌≤◌}
-use native.Mathlib.Omega.{arith}
+use mathlib.Core.Path.{◌≡◌}
+use Prim.Native.Nat.{◌+◌}
 use lib.ListN.{length}
 use Rattle.line.specs.Line.{decimal_of}
-use Rattle.line.proofs.Decimal.{one_digit, one_more, two_more, few_digits, first_digit}
 use Rattle.line.proofs.text.digits.Given as goal
 
 abbrev pub invariant-loop-front : goal.invariant-loop-front

@@ -1,8 +1,7 @@
 -- The digits from place i on stand; a number of 64 bits has at most 20.
-use Prim.Native.Nat.{◌≤◌}
 use native.Mathlib.Omega.{arith}
 use borrow.Author.Rules.{rules}
-use Rattle.line.proofs.Writing.{FromBehind, no_digit, digit_before, all_stand, write_byte}
+use Rattle.line.proofs.Writing.{no_digit, digit_before, all_stand, write_byte}
 use Rattle.line.proofs.text.number.Goals as goal
 
 pub returns : goal.returns
@@ -11,7 +10,7 @@ returns c =
     let s = c.args in
     let all = all_stand c.loop-i.invariant.0 c.loop-i-test.false in
     let written = rw (← digits.0) at all in
-    (write_byte written s.follows, omega (arith, digits.1))
+    record { writes = write_byte written s.follows; upper_bound = omega (arith, digits.1) }
 
 pub overflow_add-end : goal.overflow_add-end
 overflow_add-end c = omega (arith, c.digits.ensures.1, c.requires)

@@ -1,8 +1,6 @@
 -- The digits from place i on stand; a number of 64 bits has at most 20.
 use Prim.Native.Nat.{◌≤◌}
-use native.Mathlib.Omega.{arith}
-use borrow.Author.Rules.{rules}
-use Rattle.line.proofs.Writing.{FromBehind, no_digit, digit_before, all_stand, write_byte}
+use Rattle.line.proofs.Writing.{FromBehind}
 use Rattle.line.proofs.text.number.Given as goal
 
 abbrev pub invariant-loop-i : goal.invariant-loop-i
