@@ -1,6 +1,7 @@
 // Reads cases from standard input and prints one line for each, so that vectors are run against the ledger and compared.
 // docs/CASES.md says what a case is and what its line holds; the tests run it.
 #![tactic(auto)]
+
 ghost use Rattle.std.specs.Prelude.{◌≡◌, ◌≤◌, length};
 
 use std::io::Read;

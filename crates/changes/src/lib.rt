@@ -1,6 +1,7 @@
 // The report of a repair as text, on standard output: a line for each record that changed. The program `repair` calls it.
 // What is written no contract can say; the text of a line is proved.
 #![tactic(auto)]
+
 ghost use Rattle.std.specs.Prelude.{◌+◌, ◌≤◌, length};
 ghost use Rattle.line.specs.Line.{decimal_of};
 ghost use Rattle.line.specs.Writing.{Writes};
