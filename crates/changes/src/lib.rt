@@ -1,12 +1,14 @@
 // The report of a repair as text, on standard output: a line for each record that changed. The program `repair` calls it.
 // What is written no contract can say; the text of a line is proved.
 #![tactic(auto)]
+
 ghost use Rattle.std.specs.Prelude.{◌+◌, ◌≤◌, length};
 ghost use Rattle.line.specs.Line.{decimal_of};
 ghost use Rattle.line.specs.Writing.{Writes};
 ghost use Rattle.changes.specs.Report.{places_text, record_text};
 
-use libc::STDOUT_FILENO;
+use itoa::Buffer;
+use std::io;
 
 // The most bytes of a line: its words, a number of 20 digits, eight places and its end.
 const LINE: usize = 52;
@@ -26,9 +28,8 @@ fn put_number(line: &mut [u8], at: usize, n: u64) -> usize
     ensures writes { Writes line.old at (decimal_of n) line.new result }
     ensures upper_bound { result ≤ at + 20 }
 {
-    let mut digits = [0u8; 20];
-    let count = io::decimal(n, &mut digits);
-    put(line, at, &digits[..count])
+    let mut digits = Buffer::new();
+    put(line, at, digits.format(n).as_bytes())
 }
 
 // Writes the places whose bits are set from a place of the line on, and answers the place after them.
@@ -60,22 +61,20 @@ fn put_record(line: &mut [u8], place: u64, bits: u8) -> usize
 }
 
 // Prints the line of a record, and tells whether that went well.
-fn print_record(place: u64, bits: u8) -> bool {
+fn print_record(rt: &impl Print, place: u64, bits: u8) -> io::Result<()> {
     let mut line = [0u8; LINE];
     let length = put_record(&mut line, place, bits);
-    io::write_all(STDOUT_FILENO, &line[..length])
+    rt.write_all(&line[..length])
 }
 
 // Prints a line for each record that changed, and tells whether that went well.
-pub fn print_report(report: &[u8]) -> bool {
+pub fn print_report(rt: &impl Print, report: &[u8]) -> io::Result<()> {
     let mut q: usize = 0;
     while q < report.len() {
         if report[q] != 0 {
-            if !print_record(q as u64 + 1, report[q]) {
-                return false;
-            }
+            print_record(rt, q as u64 + 1, report[q])?;
         }
         q += 1;
     }
-    true
+    Ok(())
 }

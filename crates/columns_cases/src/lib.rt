@@ -26,27 +26,28 @@ fn places(payload: &[u8], column: usize) -> usize
 }
 
 // Prints the places of a column with a space after each, or a dash where it has none.
-fn put_column(column: &[u64]) {
+fn put_column(rt: &impl Print, column: &[u64]) {
     if column.len() == 0 {
-        print::text(b"- ");
+        print::text(rt, b"- ");
     }
     let mut i: usize = 0;
     while i < column.len() {
-        print::number(column[i], b' ');
+        print::number(rt, column[i], b' ');
         i += 1;
     }
 }
 
 // Prints eight stocks, the last of the line.
-fn put_stocks(stocks: [u64; 8]) {
+fn put_stocks(rt: &impl Print, stocks: [u64; 8]) {
     for t in 0..7 {
-        print::number(stocks[t], b' ');
+        print::number(rt, stocks[t], b' ');
     }
-    print::number(stocks[7], b'\n');
+    print::number(rt, stocks[7], b'\n');
 }
 
 // Prints the refusal of a file, the columns that are lent and the end stocks.
 fn put_filled(
+    rt: &impl Print,
     file: &[u8],
     wood: &mut [u64],
     paper: &mut [u64],
@@ -61,22 +62,22 @@ fn put_filled(
     let filled = columns::fill(
         file, wood, paper, food, textiles, garden, inert, domestic, industrial, figures,
     );
-    print::number(filled.refusal as u64, b' ');
-    put_column(wood);
-    put_column(paper);
-    put_column(food);
-    put_column(textiles);
-    put_column(garden);
-    put_column(inert);
-    put_column(domestic);
-    put_column(industrial);
-    put_column(figures);
+    print::number(rt, filled.refusal as u64, b' ');
+    put_column(rt, wood);
+    put_column(rt, paper);
+    put_column(rt, food);
+    put_column(rt, textiles);
+    put_column(rt, garden);
+    put_column(rt, inert);
+    put_column(rt, domestic);
+    put_column(rt, industrial);
+    put_column(rt, figures);
     let stocks = filled.stocks;
-    put_stocks(stocks);
+    put_stocks(rt, stocks);
 }
 
 // Prints the columns of a file, with as many places of each as the case asks for.
-pub fn fill(payload: &[u8])
+pub fn fill(rt: &impl Print, payload: &[u8])
     ensures { result ≡ tt }
 {
     if payload.len() < HEAD {
@@ -101,6 +102,7 @@ pub fn fill(payload: &[u8])
     let industrial_end = places(payload, 7);
     let figures_end = places(payload, 8);
     put_filled(
+        rt,
         &payload[HEAD..],
         &mut wood[0..wood_end],
         &mut paper[0..paper_end],

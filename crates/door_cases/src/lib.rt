@@ -30,37 +30,41 @@ fn read_cell(payload: &[u8]) -> Cell
 }
 
 // Prints the answer to a cell.
-fn put_numbers(answer: Numbers) {
-    print::number(answer.refusal as u64, b' ');
-    print::number(answer.mass as u64, b'\n');
+fn put_numbers(rt: &impl Print, answer: Numbers) {
+    print::number(rt, answer.refusal as u64, b' ');
+    print::number(rt, answer.mass as u64, b'\n');
 }
 
 // Prints a cell.
-pub fn cell(payload: &[u8])
+pub fn cell(rt: &impl Print, payload: &[u8])
     ensures { result ≡ tt }
 {
     if payload.len() < 9 {
         return;
     }
-    put_numbers(door::weigh(read_cell(payload)).numbers());
+    put_numbers(rt, door::weigh(read_cell(payload)).numbers());
 }
 
 // Prints the point of a figure and its bound.
-fn charted(figure: u64, bound: u64) {
+fn charted(rt: &impl Print, figure: u64, bound: u64) {
     let answer = door::chart(figure, bound);
     let point = answer.point;
-    print::number(answer.refusal as u64, b' ');
-    print::bits(f64::to_bits(point.figure), b' ');
-    print::bits(f64::to_bits(point.low), b' ');
-    print::bits(f64::to_bits(point.high), b'\n');
+    print::number(rt, answer.refusal as u64, b' ');
+    print::bits(rt, f64::to_bits(point.figure), b' ');
+    print::bits(rt, f64::to_bits(point.low), b' ');
+    print::bits(rt, f64::to_bits(point.high), b'\n');
 }
 
 // Prints a chart point.
-pub fn point(payload: &[u8])
+pub fn point(rt: &impl Print, payload: &[u8])
     ensures { result ≡ tt }
 {
     if payload.len() < 16 {
         return;
     }
-    charted(numbers::read_u64(payload, 0), numbers::read_u64(payload, 8));
+    charted(
+        rt,
+        numbers::read_u64(payload, 0),
+        numbers::read_u64(payload, 8),
+    );
 }

@@ -15,14 +15,14 @@ pub const STEP_HEAD: usize = image::BYTES + 2;
 pub const RUN_HEAD: usize = image::BYTES + 4;
 
 // Prints the entry of a rate.
-pub fn decay(payload: &[u8])
+pub fn decay(rt: &impl Print, payload: &[u8])
     ensures { result ≡ tt }
 {
     if payload.len() < 3 {
         return;
     }
     let entry = decay::entry(payload[0], numbers::read_u16(payload, 1) as u16);
-    print::number(entry as u64, b'\n');
+    print::number(rt, entry as u64, b'\n');
 }
 
 // Answers the ledger of a payload, whose image stands first.
@@ -34,32 +34,42 @@ pub fn ledger_of(payload: &[u8]) -> Ledger
 }
 
 // Prints the 30 numbers of a ledger with a space after each.
-fn put_ledger(ledger: Ledger) {
+fn put_ledger(rt: &impl Print, ledger: Ledger) {
     let brought = ledger.brought;
     let stock = ledger.stock;
     let released = ledger.released;
     let year = ledger.year;
-    print::three(ledger.n as u64, ledger.kind as u64, ledger.climate as u64);
-    print::three(year.factor as u64, year.class as u64, year.captured as u64);
-    print::eight(brought);
-    print::eight(stock);
-    print::eight(released);
+    print::three(
+        rt,
+        ledger.n as u64,
+        ledger.kind as u64,
+        ledger.climate as u64,
+    );
+    print::three(
+        rt,
+        year.factor as u64,
+        year.class as u64,
+        year.captured as u64,
+    );
+    print::eight(rt, brought);
+    print::eight(rt, stock);
+    print::eight(rt, released);
 }
 
 // Prints the numbers of a step's answer with a space after each.
-pub fn put_answer(answer: Answer)
+pub fn put_answer(rt: &impl Print, answer: Answer)
     ensures { result ≡ tt }
 {
     let ledger = answer.ledger;
     let releases = answer.releases;
-    print::number(answer.refusal as u64, b' ');
-    put_ledger(ledger);
-    print::eight(releases);
-    print::three(answer.x0, answer.figure, answer.bound);
+    print::number(rt, answer.refusal as u64, b' ');
+    put_ledger(rt, ledger);
+    print::eight(rt, releases);
+    print::three(rt, answer.x0, answer.figure, answer.bound);
 }
 
 // Prints one step, with the room that the case asks for.
-pub fn step(payload: &[u8])
+pub fn step(rt: &impl Print, payload: &[u8])
     ensures { result ≡ tt }
 {
     if payload.len() < STEP_HEAD {
@@ -69,21 +79,21 @@ pub fn step(payload: &[u8])
     let room = numbers::read_u16(payload, image::BYTES) as usize;
     let lent = &mut out[0..room];
     let answer = ledger_of(payload).take(&payload[STEP_HEAD..], lent);
-    put_answer(answer);
-    print::bytes(lent, b'\n');
+    put_answer(rt, answer);
+    print::bytes(rt, lent, b'\n');
 }
 
 // Prints the numbers of a run's answer with a space after each.
-pub fn put_outcome(outcome: Outcome)
+pub fn put_outcome(rt: &impl Print, outcome: Outcome)
     ensures { result ≡ tt }
 {
     let ledger = outcome.ledger;
-    print::three(outcome.accepted, outcome.refusal as u64, outcome.work);
-    put_ledger(ledger);
+    print::three(rt, outcome.accepted, outcome.refusal as u64, outcome.work);
+    put_ledger(rt, ledger);
 }
 
 // Prints a whole run, with the room that the case asks for.
-pub fn run(payload: &[u8])
+pub fn run(rt: &impl Print, payload: &[u8])
     ensures { result ≡ tt }
 {
     if payload.len() < RUN_HEAD {
@@ -93,8 +103,8 @@ pub fn run(payload: &[u8])
     let room = print::room_of(numbers::read_u32(payload, image::BYTES));
     let lent = &mut out[0..room];
     let outcome = run::run(ledger_of(payload), &payload[RUN_HEAD..], lent);
-    put_outcome(outcome);
-    print::bytes(lent, b'\n');
+    put_outcome(rt, outcome);
+    print::bytes(rt, lent, b'\n');
 }
 
 // Answers room for the text of any listing.
@@ -105,11 +115,11 @@ fn text() -> [u8; lines::TEXT]
 }
 
 // Prints the listing of a file.
-pub fn listing(payload: &[u8])
+pub fn listing(rt: &impl Print, payload: &[u8])
     ensures { result ≡ tt }
 {
     let mut text = text();
     let listed = lines::listing(payload, &mut text);
     let length = listed.length;
-    print::bytes(&text[..length], b'\n');
+    print::bytes(rt, &text[..length], b'\n');
 }

@@ -29,13 +29,13 @@ fn order_end(payload: &[u8]) -> usize
 }
 
 // Prints the numbers of an answer with a space after each.
-fn put_repaired(repaired: Repaired) {
-    print::number(repaired.refusal as u64, b' ');
-    print::number(repaired.changed, b' ');
+fn put_repaired(rt: &impl Print, repaired: Repaired) {
+    print::number(rt, repaired.refusal as u64, b' ');
+    print::number(rt, repaired.changed, b' ');
 }
 
 // Prints a file put right, with the rooms that the case asks for.
-pub fn repair(payload: &[u8])
+pub fn repair(rt: &impl Print, payload: &[u8])
     ensures { result ≡ tt }
 {
     if payload.len() < HEAD {
@@ -48,7 +48,10 @@ pub fn repair(payload: &[u8])
     let end = order_end(payload);
     let lent = &mut out[0..room];
     let noted = &mut report[0..report_room];
-    put_repaired(order::repair(&payload[HEAD..end], &payload[end..], lent, noted));
-    print::bytes(lent, b' ');
-    print::bytes(noted, b'\n');
+    put_repaired(
+        rt,
+        order::repair(&payload[HEAD..end], &payload[end..], lent, noted),
+    );
+    print::bytes(rt, lent, b' ');
+    print::bytes(rt, noted, b'\n');
 }

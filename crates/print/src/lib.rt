@@ -13,50 +13,50 @@ pub use lent::{buffer, room_of};
 const PAGE: usize = 4096;
 
 // Prints a text as it stands.
-pub fn text(out: &impl Print, of: &[u8])
+pub fn text(rt: &impl Print, of: &[u8])
     ensures { result ≡ tt }
 {
-    let _ = out.write_all(of);
+    let _ = rt.write_all(of);
 }
 
 // Prints the byte that follows a word.
-fn end(out: &impl Print, follows: u8) {
+fn end(rt: &impl Print, follows: u8) {
     let one = [follows];
-    text(out, &one);
+    text(rt, &one);
 }
 
 // Prints a number in plain decimal and the byte that follows it.
-pub fn number(out: &impl Print, n: u64, follows: u8)
+pub fn number(rt: &impl Print, n: u64, follows: u8)
     ensures { result ≡ tt }
 {
-    let _ = out.print(n);
-    end(out, follows);
+    let _ = rt.print(n);
+    end(rt, follows);
 }
 
 // Prints three numbers with a space after each.
-pub fn three(out: &impl Print, a: u64, b: u64, c: u64)
+pub fn three(rt: &impl Print, a: u64, b: u64, c: u64)
     ensures { result ≡ tt }
 {
-    number(out, a, b' ');
-    number(out, b, b' ');
-    number(out, c, b' ');
+    number(rt, a, b' ');
+    number(rt, b, b' ');
+    number(rt, c, b' ');
 }
 
 // Prints eight numbers with a space after each.
-pub fn eight(out: &impl Print, of: [u64; 8])
+pub fn eight(rt: &impl Print, of: [u64; 8])
     ensures { result ≡ tt }
 {
     for t in 0..8 {
-        number(out, of[t], b' ');
+        number(rt, of[t], b' ');
     }
 }
 
 // Prints the 16 hex digits of a float's bits and the byte that follows them.
-pub fn bits(out: &impl Print, pattern: u64, follows: u8)
+pub fn bits(rt: &impl Print, pattern: u64, follows: u8)
     ensures { result ≡ tt }
 {
-    let _ = print!(out; "{pattern:016x}");
-    end(out, follows);
+    let _ = print!(rt; "{pattern:016x}");
+    end(rt, follows);
 }
 
 // Answers the hex digit of a number.
@@ -67,12 +67,12 @@ fn digit(n: u8) -> u8
 }
 
 // Puts a byte on the page, and answers the place after it; a full page is written out.
-fn put(out: &impl Print, page: &mut [u8], at: usize, of: u8) -> usize {
+fn put(rt: &impl Print, page: &mut [u8], at: usize, of: u8) -> usize {
     if at < page.len() {
         page[at] = of;
         return at + 1;
     }
-    text(out, page);
+    text(rt, page);
     if page.len() == 0 {
         return 0;
     }
@@ -81,38 +81,38 @@ fn put(out: &impl Print, page: &mut [u8], at: usize, of: u8) -> usize {
 }
 
 // Puts the two hex digits of a byte.
-fn put_pair(out: &impl Print, page: &mut [u8], at: usize, of: u8) -> usize {
-    let second = put(out, page, at, digit(of / 16));
-    put(out, page, second, digit(of % 16))
+fn put_pair(rt: &impl Print, page: &mut [u8], at: usize, of: u8) -> usize {
+    let second = put(rt, page, at, digit(of / 16));
+    put(rt, page, second, digit(of % 16))
 }
 
 // Puts bytes as hex from the start of the page on, and answers the place after the last.
-fn put_all(out: &impl Print, page: &mut [u8], of: &[u8]) -> usize {
+fn put_all(rt: &impl Print, page: &mut [u8], of: &[u8]) -> usize {
     let mut next: usize = 0;
     let mut i: usize = 0;
     while i < of.len() {
-        next = put_pair(out, page, next, of[i]);
+        next = put_pair(rt, page, next, of[i]);
         i += 1;
     }
     next
 }
 
 // Prints what stands on the page ahead of a place.
-fn flush(out: &impl Print, page: &[u8], at: usize) {
+fn flush(rt: &impl Print, page: &[u8], at: usize) {
     if at <= page.len() {
-        text(out, &page[0..at]);
+        text(rt, &page[0..at]);
     }
 }
 
 // Prints bytes as hex, or a dash where there are none, and the byte that follows them.
-pub fn bytes(out: &impl Print, of: &[u8], follows: u8)
+pub fn bytes(rt: &impl Print, of: &[u8], follows: u8)
     ensures { result ≡ tt }
 {
     if of.len() == 0 {
-        text(out, b"-");
+        text(rt, b"-");
     }
     let mut page = [0u8; PAGE];
-    let at = put_all(out, &mut page, of);
-    flush(out, &page, at);
-    end(out, follows);
+    let at = put_all(rt, &mut page, of);
+    flush(rt, &page, at);
+    end(rt, follows);
 }

@@ -1,7 +1,9 @@
 // What the arguments ask for: an order, and the file or its report.
 ghost use Rattle.std.specs.Prelude.{◌≡◌};
-ghost use Rattle.io.specs.Counts.{IsPrefixLen};
+ghost use Rattle.input.specs.Counts.{IsPrefixLen};
 ghost use Rattle.repair.specs.Digits.{type_named, types_named};
+
+use std::env::{Env, FillError};
 
 // The room for an order: a digit more than it has, so that a longer word is seen to be none, and never cut to one.
 pub(crate) const ORDER: usize = 9;
@@ -14,9 +16,31 @@ pub(crate) enum Asked {
     Unknown,
 }
 
+// Tells whether the program was started with a word at a place.
+fn is_given(from: &impl Env, place: usize) -> bool {
+    !matches!(from.arg(place, &mut []), Err(FillError::NotPresent))
+}
+
+// Answers how many words the program was started with, its own name among them, and 4 for more.
+fn word_count(from: &impl Env) -> usize {
+    for place in 0..4 {
+        if !is_given(from, place) {
+            return place;
+        }
+    }
+    4
+}
+
+// Puts the word at a place at the start of a room, and answers its length: 0 where it is missing or there is no room for it.
+fn word_at(from: &impl Env, place: usize, room: &mut [u8]) -> usize
+    ensures { IsPrefixLen result room.new }
+{
+    from.arg(place, room).unwrap_or(0)
+}
+
 // Answers what the number of arguments and the second of them ask for; the program's own name is the first word.
-pub(crate) fn asked_for() -> Asked {
-    let words = os::arg_count();
+pub(crate) fn asked_for(from: &impl Env) -> Asked {
+    let words = word_count(from);
     if words == 2 {
         return Asked::File;
     }
@@ -24,8 +48,8 @@ pub(crate) fn asked_for() -> Asked {
         return Asked::Unknown;
     }
     let mut word = [0u8; 6];
-    let length = os::arg(2, &mut word);
-    if check::same(&word[..length], b"report") {
+    let length = word_at(from, 2, &mut word);
+    if &word[..length] == b"report".as_slice() {
         Asked::Report
     } else {
         Asked::Unknown
@@ -57,10 +81,10 @@ fn name_types(word: &mut [u8])
 }
 
 // Reads the order off the first argument, and answers how many types it names: 0 where there is no room for all.
-pub(crate) fn order_asked(order: &mut [u8]) -> usize
+pub(crate) fn order_asked(from: &impl Env, order: &mut [u8]) -> usize
     ensures { IsPrefixLen result order.new }
 {
-    let length = os::arg(1, order);
+    let length = word_at(from, 1, order);
     name_types(order);
     length
 }

@@ -2,6 +2,7 @@
 // It reads a file of records from standard input and writes what `order::repair` makes of it, or a line for each record that this
 // changes, to standard output; a short account of it goes to standard error.
 #![tactic(auto)]
+
 mod account;
 mod arguments;
 
@@ -9,7 +10,6 @@ ghost use Rattle.std.specs.Prelude.{◌≡◌, ◌+◌, ◌≤◌, length};
 ghost use Rattle.repair.specs.Rooms.{records_taken, file_bytes};
 
 use arguments::Asked;
-use libc::STDOUT_FILENO;
 
 // The most records of a file, ten times what a ledger takes: there is no heap.
 const RECORDS: usize = 12_000;
@@ -39,20 +39,20 @@ fn input_room() -> [u8; FILE_BYTES + 1]
 }
 
 // Writes the file, or the lines of its report, to standard output, and tells whether that went well; a failure is told on standard error.
-fn write_out(reports: bool, file: &[u8], report: &[u8]) -> bool {
+fn write_out(rt: &HostRuntime, reports: bool, file: &[u8], report: &[u8]) -> bool {
     let written = if reports {
-        changes::print_report(report)
+        changes::print_report(rt, report)
     } else {
-        io::write_all(STDOUT_FILENO, file)
+        rt.write_all(file)
     };
-    if !written {
-        os::fail(b"repair: standard output");
+    if let Err(error) = written {
+        input::fail(&rt.stderr(), b"repair: standard output", error);
     }
-    written
+    written.is_ok()
 }
 
 // Puts a file right, and tells how that went; nothing is written of a refused one.
-fn put_right(reports: bool, types: &[u8], file: &[u8])
+fn put_right(rt: &HostRuntime, reports: bool, types: &[u8], file: &[u8])
     requires { length file.now ≤ file_bytes }
 {
     let mut out = file_room();
@@ -61,36 +61,41 @@ fn put_right(reports: bool, types: &[u8], file: &[u8])
     let bytes = file.len();
     let records = bytes / record::BYTES;
     if repaired.refusal == 0 {
-        if !write_out(reports, &out[..bytes], &report[..records]) {
+        if !write_out(rt, reports, &out[..bytes], &report[..records]) {
             return;
         }
     }
-    account::tell_account(records as u64, repaired.changed, repaired.refusal);
+    account::tell_account(
+        &rt.stderr(),
+        records as u64,
+        repaired.changed,
+        repaired.refusal,
+    );
 }
 
 // Reads the order and the file, and puts the file right; a file that was not read to its end is only told of.
-fn put_input_right(reports: bool) {
+fn put_input_right(rt: &HostRuntime, reports: bool) {
     let mut types = [0u8; arguments::ORDER];
-    let named = arguments::order_asked(&mut types);
+    let named = arguments::order_asked(rt, &mut types);
     let mut file = input_room();
-    let input = input::read_all(&mut file);
+    let input = input::read_all(&mut rt.stdin(), &mut file);
     if input.failed {
-        os::fail(b"repair: standard input");
+        input::fail(&rt.stderr(), b"repair: standard input", input.error);
         return;
     }
     let read = input.length;
     if read > FILE_BYTES {
-        account::tell_too_long(RECORDS as u64);
+        account::tell_too_long(&rt.stderr(), RECORDS as u64);
         return;
     }
-    put_right(reports, &types[..named], &file[..read]);
+    put_right(rt, reports, &types[..named], &file[..read]);
 }
 
 // Does what the arguments ask for, or tells what they can be.
-fn main() {
-    match arguments::asked_for() {
-        Asked::File => put_input_right(false),
-        Asked::Report => put_input_right(true),
-        Asked::Unknown => account::tell_usage(),
+fn main(rt: HostRuntime) {
+    match arguments::asked_for(&rt) {
+        Asked::File => put_input_right(&rt, false),
+        Asked::Report => put_input_right(&rt, true),
+        Asked::Unknown => account::tell_usage(&rt.stderr()),
     }
 }

@@ -6,22 +6,22 @@ ghost use Rattle.std.specs.Prelude.{◌≡◌};
 use samples::Sorted;
 
 // Prints the answer.
-fn put_sorted(sorted: Sorted) {
+fn put_sorted(rt: &impl Print, sorted: Sorted) {
     let masses = sorted.masses;
-    print::number(sorted.refusal as u64, b' ');
+    print::number(rt, sorted.refusal as u64, b' ');
     for t in 0..7 {
-        print::number(masses[t] as u64, b' ');
+        print::number(rt, masses[t] as u64, b' ');
     }
-    print::number(masses[7] as u64, b'\n');
+    print::number(rt, masses[7] as u64, b'\n');
 }
 
 // Prints the masses of a total and its samples.
-pub fn masses(payload: &[u8])
+pub fn masses(rt: &impl Print, payload: &[u8])
     ensures { result ≡ tt }
 {
     if payload.len() < 9 {
         return;
     }
     let total = numbers::read_u64(payload, 1);
-    put_sorted(samples::masses(payload[0], total, &payload[9..]));
+    put_sorted(rt, samples::masses(payload[0], total, &payload[9..]));
 }

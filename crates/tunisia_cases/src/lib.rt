@@ -57,32 +57,32 @@ fn entries_from(payload: &[u8], grams: usize, from: usize) -> [u64; ENTRIES]
 }
 
 // Prints a signed number and a space; the least that there is has no number of its size.
-fn put_signed(z: i64)
+fn put_signed(rt: &impl Print, z: i64)
     requires { mag z < 2 ^ 63 - 1 }
 {
     if z < 0 {
-        print::text(b"-");
-        print::number((0 - z) as u64, b' ');
+        print::text(rt, b"-");
+        print::number(rt, (0 - z) as u64, b' ');
         return;
     }
-    print::number(z as u64, b' ');
+    print::number(rt, z as u64, b' ');
 }
 
 // Prints an answer.
-fn put_reduction(of: Reduction)
+fn put_reduction(rt: &impl Print, of: Reduction)
     requires { mag «of».reduction < 2 ^ 63 - 1 }
 {
-    print::number(of.refusal as u64, b' ');
-    print::number(of.reference, b' ');
-    print::number(of.project, b' ');
-    put_signed(of.reduction);
-    print::number(of.bound, b' ');
-    print::number(of.years, b' ');
-    print::number(of.refused as u64, b'\n');
+    print::number(rt, of.refusal as u64, b' ');
+    print::number(rt, of.reference, b' ');
+    print::number(rt, of.project, b' ');
+    put_signed(rt, of.reduction);
+    print::number(rt, of.bound, b' ');
+    print::number(rt, of.years, b' ');
+    print::number(rt, of.refused as u64, b'\n');
 }
 
 // Prints the reduction of a file over the years of a case.
-pub fn reduction(payload: &[u8])
+pub fn reduction(rt: &impl Print, payload: &[u8])
     ensures { result ≡ tt }
 {
     if payload.len() < HEAD {
@@ -93,11 +93,14 @@ pub fn reduction(payload: &[u8])
     let electricity = entries_from(payload, grams, 0);
     let fuel_count = entries_of(numbers::read_u16(payload, 18));
     let fuel = entries_from(payload, grams, electricity_count);
-    put_reduction(tunisia::reduction_over(
-        &payload[HEAD + 8 * grams..],
-        numbers::read_u64(payload, 0),
-        numbers::read_u64(payload, 8),
-        &electricity[0..electricity_count],
-        &fuel[0..fuel_count],
-    ));
+    put_reduction(
+        rt,
+        tunisia::reduction_over(
+            &payload[HEAD + 8 * grams..],
+            numbers::read_u64(payload, 0),
+            numbers::read_u64(payload, 8),
+            &electricity[0..electricity_count],
+            &fuel[0..fuel_count],
+        ),
+    );
 }

@@ -23,25 +23,25 @@ fn entered(payload: &[u8]) -> Uncertainties
 }
 
 // Prints an answer.
-fn put_factor(answer: ModelFactor) {
-    print::number(answer.refusal as u64, b' ');
-    print::number(answer.factor as u64, b'\n');
+fn put_factor(rt: &impl Print, answer: ModelFactor) {
+    print::number(rt, answer.refusal as u64, b' ');
+    print::number(rt, answer.factor as u64, b'\n');
 }
 
 // Prints the factor of six percentages.
-pub fn by_percentages(payload: &[u8])
+pub fn by_percentages(rt: &impl Print, payload: &[u8])
     ensures { result ≡ tt }
 {
     if payload.len() >= PAYLOAD {
-        put_factor(entered(payload).by_percentages());
+        put_factor(rt, entered(payload).by_percentages());
     }
 }
 
 // Prints the factor of two percentages and four codes.
-pub fn by_codes(payload: &[u8])
+pub fn by_codes(rt: &impl Print, payload: &[u8])
     ensures { result ≡ tt }
 {
     if payload.len() >= PAYLOAD {
-        put_factor(entered(payload).by_codes());
+        put_factor(rt, entered(payload).by_codes());
     }
 }

@@ -43,14 +43,14 @@ fn used(totals: &[u8]) -> usize
 }
 
 // Prints the buffers that were lent, the last words of a line.
-fn put_lent(out: &[u8], totals: &[u8]) {
-    print::bytes(out, b' ');
+fn put_lent(rt: &impl Print, out: &[u8], totals: &[u8]) {
+    print::bytes(rt, out, b' ');
     let end = used(totals);
-    print::bytes(&totals[0..end], b'\n');
+    print::bytes(rt, &totals[0..end], b'\n');
 }
 
 // Prints one step, with the room and the totals that the case asks for.
-pub fn step(payload: &[u8])
+pub fn step(rt: &impl Print, payload: &[u8])
     ensures { result ≡ tt }
 {
     if payload.len() < STEP_HEAD {
@@ -66,12 +66,12 @@ pub fn step(payload: &[u8])
     fill(totals, &payload[STEP_HEAD..end]);
     let ledger = ledger_cases::ledger_of(payload);
     let answer = yearly_totals::take_month(ledger, totals, &payload[end..], lent);
-    ledger_cases::put_answer(answer);
-    put_lent(lent, totals);
+    ledger_cases::put_answer(rt, answer);
+    put_lent(rt, lent, totals);
 }
 
 // Prints a whole run, with the room and the totals that the case asks for.
-pub fn run(payload: &[u8])
+pub fn run(rt: &impl Print, payload: &[u8])
     ensures { result ≡ tt }
 {
     if payload.len() < RUN_HEAD {
@@ -87,6 +87,6 @@ pub fn run(payload: &[u8])
     fill(totals, &payload[RUN_HEAD..end]);
     let ledger = ledger_cases::ledger_of(payload);
     let outcome = yearly_totals::run_months(ledger, totals, &payload[end..], lent);
-    ledger_cases::put_outcome(outcome);
-    put_lent(lent, totals);
+    ledger_cases::put_outcome(rt, outcome);
+    put_lent(rt, lent, totals);
 }
