@@ -1,5 +1,4 @@
 -- The record's own where it begins a year, and else what was remembered.
-use borrow.Author.Rules.{rules}
 use Rattle.year_factors.specs.YearFactors.{remembered}
 use Rattle.year_factors.proofs.YearFactors.after.Goals as goal
 

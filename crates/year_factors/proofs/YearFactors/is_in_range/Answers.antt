@@ -1,5 +1,4 @@
 -- The three tests.
-use borrow.Author.Rules.{rules}
 use Rattle.year_factors.proofs.YearFactors.is_in_range.Goals as goal
 
 pub returns : goal.returns

@@ -1,6 +1,5 @@
 -- The three tests.
 use mathlib.Core.Bool.{and-true, and-false}
-use borrow.Author.Rules.{rules}
 use borrow.Author.Tests.{eq-eqb, ne_eqb}
 use Rattle.year_factors.proofs.YearFactors.is_repeated.Goals as goal
 

@@ -1,7 +1,6 @@
 -- Yearly, or the same, or the first of a year.
 use mathlib.Core.Path.{sym, ◌∙◌}
 use mathlib.Core.Bool.{or-true, or-false}
-use borrow.Author.Rules.{rules}
 use borrow.Author.Tests.{eq-eqb, ne_eqb}
 use Rattle.year_factors.specs.YearFactors.{shares}
 use Rattle.year_factors.proofs.YearFactors.is_shared.Goals as goal

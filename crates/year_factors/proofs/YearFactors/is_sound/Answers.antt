@@ -1,5 +1,4 @@
 -- Within their ranges, or zero.
-use borrow.Author.Rules.{rules}
 use Rattle.year_factors.specs.YearFactors.{sound_year}
 use Rattle.year_factors.proofs.YearFactors.is_sound.Goals as goal
 

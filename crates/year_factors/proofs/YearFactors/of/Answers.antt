@@ -1,5 +1,4 @@
 -- The three fields.
-use borrow.Author.Rules.{rules}
 use Rattle.year_factors.specs.YearFactors.{year_of}
 use Rattle.year_factors.proofs.YearFactors.of.Goals as goal
 
