@@ -63,6 +63,7 @@ fn square(x: u8) -> u32
 }
 
 // Tells whether the sum of squares allows a factor.
+#[tactic(auto, unfolding(crate::specs::Uncertainty::allows))]
 fn is_allowed(squares: u32, factor: u32) -> bool
     requires { (squares ≤ most_squares) × (factor ≤ 100) }
     ensures { result ≡ allows squares factor }
@@ -85,6 +86,7 @@ fn greatest_factor(squares: u32) -> u8
 
 impl Uncertainties {
     // Tells whether all six are percentages.
+    #[tactic(auto, unfolding(crate::specs::Uncertainty::are_percentages))]
     fn are_percentages(self) -> bool
         ensures { result ≡ are_percentages self }
     {
@@ -97,6 +99,7 @@ impl Uncertainties {
     }
 
     // Tells whether c, d, e and g are codes.
+    #[tactic(auto, unfolding(crate::specs::Uncertainty::are_codes))]
     fn are_codes(self) -> bool
         ensures { result ≡ are_codes self }
     {
@@ -104,6 +107,7 @@ impl Uncertainties {
     }
 
     // Answers the percentages that the codes of c, d, e and g choose.
+    #[tactic(auto, unfolding(crate::specs::Uncertainty::chosen_by))]
     fn chosen_values(self) -> Uncertainties
         ensures { result ≡ chosen_by self }
     {
@@ -118,6 +122,7 @@ impl Uncertainties {
     }
 
     // Answers the sum of the squares.
+    #[tactic(auto, unfolding(crate::specs::Uncertainty::squares_of))]
     fn squares(self) -> u32
         ensures { result ≡ squares_of self }
     {
@@ -130,6 +135,7 @@ impl Uncertainties {
     }
 
     // Answers the factor for six percentages, or refuses: 18 one of them is over 100.
+    #[tactic(auto, using(crate::proofs::Laws::squares_most, crate::proofs::Answer::percentage_over, crate::proofs::Answer::factor_found))]
     pub fn by_percentages(self) -> ModelFactor
         ensures { result ≡ by_percentages self }
     {
@@ -144,6 +150,7 @@ impl Uncertainties {
 
     // Answers the factor for percentages a and b and the values that four codes choose, or refuses: 18 a or b is over 100, 19 a code
     // is not 1 or 2.
+    #[tactic(auto, using(crate::proofs::Answer::entered_over, crate::proofs::Answer::not_coded, crate::proofs::Answer::as_chosen))]
     pub fn by_codes(self) -> ModelFactor
         ensures { result ≡ by_codes self }
     {
