@@ -1,6 +1,7 @@
 // The carbon of one type and of all eight, as lists: table entries, what a period leaves, what so many records can bring, and sums.
 // It serves 'One step' and refusal 3 of document 01; the crates above call it, and no user. Place 0 of a list is type 1.
 #![tactic(auto)]
+
 ghost use Rattle.std.specs.Prelude.{◌≡◌, ℕ, ◌+◌, ◌-◌, ◌%◌, ◌^◌, ◌<◌, ◌≤◌, ◌&&◌, nat_le, slice_index, slice_index_or};
 ghost use Rattle.numbers.specs.Eight.{eight, sum_of, every_of};
 ghost use Rattle.decay.specs.Series.{at_rate};
