@@ -5,10 +5,12 @@
   decay_tables.py --check FILE  compares it with the one that stands in FILE; exit status 1 where they differ
 """
 import sys
+import textwrap
 from fractions import Fraction
 from math import floor
 
 BILLION = 10**9
+COLUMNS = 100  # the longest line of rt fmt
 RATES = range(1, 401)  # thousandths a year
 PARTS = {1: 1000, 2: 12000}  # by kind: x is the rate over this number
 
@@ -34,7 +36,9 @@ def entry(kind, rate):
 
 def block():
     """The lines of the entries by year as a Rattle constant."""
-    return [f"const YEARLY: [u32; {len(RATES)}] = ["] + [f"    {entry(1, rate)}," for rate in RATES] + ["];"]
+    entries = " ".join(f"{entry(1, rate)}," for rate in RATES)
+    rows = textwrap.wrap(entries, COLUMNS, initial_indent="    ", subsequent_indent="    ")
+    return [f"const YEARLY: [u32; {len(RATES)}] = [", *rows, "];"]
 
 
 def difference(wanted, path, lines):
