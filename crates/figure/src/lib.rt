@@ -1,6 +1,7 @@
 // From the releases of a record to its figure and bound: the chain of factors of 'One step' of document 01.
 // The ledger calls it, with the factors as a value.
 #![tactic(auto)]
+
 ghost use Rattle.std.specs.Prelude.{true, cond, ◌≡◌, ℕ, ◌+◌, ◌-◌, ◌*◌, ◌/◌, ◌^◌, ◌≤◌, ◌<◌, eqb, get_or};
 ghost use Rattle.numbers.specs.Eight.{sum_of};
 ghost use Rattle.record.specs.Fields.{kind_of, climate_of, factors_of};
