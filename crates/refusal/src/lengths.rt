@@ -3,6 +3,7 @@ ghost use Rattle.std.specs.Prelude.{◌≡◌};
 ghost use Rattle.refusal.specs.Reach.{reach_of, left_over};
 
 // Answers how many bytes of so many the records take that are whole and have room for their output records.
+#[tactic(auto, unfolding(crate::specs::Reach::reach_of))]
 pub fn reach(records: usize, room: usize) -> usize
     ensures { result ≡ reach_of records room }
 {
@@ -13,6 +14,7 @@ pub fn reach(records: usize, room: usize) -> usize
 }
 
 // Answers the refusal of what is left of a file behind them: no whole record (1), or no room for it (2).
+#[tactic(auto, unfolding(crate::specs::Reach::left_over))]
 pub fn left_over(bytes: usize) -> u8
     ensures { result ≡ left_over bytes }
 {

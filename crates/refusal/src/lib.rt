@@ -1,6 +1,7 @@
 // The refusals of a record by their numbers: 'Refusal numbers' of document 01. The ledger asks it, with its own n, kind, climate
 // and year.
 #![tactic(auto)]
+
 mod lengths;
 
 ghost use Rattle.std.specs.Prelude.{cond, ◌≡◌, eqb};
@@ -14,6 +15,7 @@ use record::Factors;
 use year_factors::YearFactors;
 
 // Tells whether a record has a kind and a climate.
+#[tactic(auto, unfolding(crate::specs::Refusal::continues))]
 fn is_continued(kind: u8, climate: u8, bytes: &[u8]) -> bool
     ensures { result ≡ continues kind climate bytes.now }
 {
@@ -21,6 +23,7 @@ fn is_continued(kind: u8, climate: u8, bytes: &[u8]) -> bool
 }
 
 // Answers the refusal that everything ahead of the masses (9) decides, 0 if none; `good` says whether the ledger is sound.
+#[tactic(auto, unfolding(crate::specs::Refusal::faults_of))]
 pub fn early(
     n: u16,
     kind: u8,

@@ -1,6 +1,7 @@
 // The slots of a buffer of yearly totals, one for each year of a monthly ledger: request l of document 02. `yearly_totals` calls it, with
 // the number n of months before a record, whose period is then n + 1.
 #![tactic(auto)]
+
 ghost use Rattle.std.specs.Prelude.{◌≡◌, ◌+◌, ◌*◌, ◌^◌, ◌≤◌, ◌<◌, length};
 ghost use Rattle.std.proofs.lemmas.List.Edits.{sets};
 ghost use Rattle.record.specs.Fields.{record_bytes};
@@ -56,6 +57,7 @@ fn write(totals: &mut [u8], k: usize, slot: Slot)
 }
 
 // Tells whether a sum of a slot is above the limit.
+#[tactic(auto, unfolding(crate::specs::Slots::any_above))]
 fn is_above(slot: Slot) -> bool
     ensures { result ≡ any_above slot }
 {

@@ -1,0 +1,26 @@
+-- The slot's five numbers decide: a blank slot is one whose numbers are all 0.
+use mathlib.Core.Path.{◌≡◌, sym, ◌∙◌}
+use mathlib.Core.Bool.{false}
+use Prim.Native.Nat.{◌/◌}
+use Rattle.year_slots.proofs.Slots.{counts, some_byte, differs_counts, differs_none, differs_some}
+use Rattle.year_slots.proofs.is_other.Goals as goal
+
+pub returns-then-slot-n : goal.returns-then-slot-n
+returns-then-slot-n c =
+    let s = c.args in
+    sym (differs_counts s.totals.now s.n (rw (← c.read-slot.ensures.0, ← c.is_above.ensures) c.if-slot-n.true))
+
+pub returns-then-slot-eq0 : goal.returns-then-slot-eq0
+returns-then-slot-eq0 c =
+    let s = c.args in
+    let read = c.read-slot.ensures.0 in
+    let zero = c.if-slot-eq0.true in
+    let counted : counts s.totals.now s.n ≡ false = rw (← read, ← c.is_above.ensures) c.if-slot-n.false in
+    rw read (sym (some_byte s.totals.now (s.n / 12) (rw read at zero)) ∙ sym (differs_none s.totals.now s.n counted (rw read at zero)))
+
+pub returns : goal.returns
+returns c =
+    let s = c.args in
+    let read = c.read-slot.ensures.0 in
+    let counted : counts s.totals.now s.n ≡ false = rw (← read, ← c.is_above.ensures) c.if-slot-n.false in
+    rw read (sym (differs_some s.totals.now s.n counted (rw read at c.if-slot-eq0.false)))
