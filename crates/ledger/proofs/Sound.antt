@@ -9,8 +9,7 @@ use borrow.Author.Tests.{eq-eqb, ne_eqb, le-leb, leb-true, eqb-true}
 use lib.Dec.{eqb, leb, leb-suc-zero, eqb-suc-zero}
 use Rattle.numbers.specs.Eight.{eight, every_of}
 use Rattle.numbers.proofs.Eight.{both_true, three_true, every_at, every_each, every_same, eight_same, sum_at_most}
-use Rattle.waste.specs.Kind.{is_kind}
-use Rattle.waste.specs.Waste.{mass_limit, carbon_of, most_carbon_of, is_climate}
+use Rattle.waste.specs.Waste.{mass_limit, carbon_of, most_carbon_of}
 use Rattle.carbon.specs.Carbon.{most_records, most_brought, ceiling_of, within_of}
 use Rattle.carbon.proofs.Laws.{ceiling_most}
 use Rattle.year_factors.specs.YearFactors.{sound_year}
