@@ -34,6 +34,7 @@ pub fn all_grams(grams: &[u64]) -> u64
 }
 
 // Tells whether years are some, within the accepted ones, and have so many entries of each kind of grams.
+#[tactic(auto, unfolding(crate::specs::Stretch::is_stretch))]
 fn is_stretch(first: u64, last: u64, years: u64, electricity: usize, fuel: usize) -> bool
     ensures { result ≡ is_stretch first last years electricity fuel }
 {
@@ -45,6 +46,7 @@ fn is_stretch(first: u64, last: u64, years: u64, electricity: usize, fuel: usize
 }
 
 // Answers the refusal of a stretch, 0 if none.
+#[tactic(auto, unfolding(crate::specs::Stretch::stretch_refusal))]
 pub fn stretch_refusal(first: u64, last: u64, years: u64, electricity: &[u64], fuel: &[u64]) -> u8
     ensures { result ≡ stretch_refusal first last years electricity.now fuel.now }
 {
@@ -74,6 +76,7 @@ fn less(z: i64, x: u64) -> i64
 }
 
 // Answers reference less project less electricity less fuel, which may be below zero.
+#[tactic(auto, using(crate::proofs::Sizes::signed_back), unfolding(crate::specs::Stretch::less_all))]
 pub fn less_all(reference: u64, project: u64, electricity: u64, fuel: u64) -> i64
     requires { reference + project + electricity + fuel < 2 ^ 63 }
     ensures { result ≡ less_all reference project electricity fuel }

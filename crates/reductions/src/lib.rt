@@ -1,6 +1,7 @@
 // What one year gives under the Tunisian reference method, and what a stretch of years is refused by and comes to: request i of document
 // 02, after source 002. Nothing here has a ledger; `tunisia` calls it for the years of a file.
 #![tactic(auto)]
+
 mod grams;
 mod year;
 

@@ -20,6 +20,7 @@ pub struct Sums {
 }
 
 // Answers factors with another class in the place of theirs.
+#[tactic(auto, unfolding(crate::specs::Year::in_class))]
 fn in_class(factors: Factors, class: u8) -> Factors
     ensures { result ≡ in_class class factors }
 {
@@ -35,6 +36,7 @@ fn in_class(factors: Factors, class: u8) -> Factors
 }
 
 // Answers the figure of x0 with a class in the place of that of the factors.
+#[tactic(auto, using(crate::proofs::Years::in_class_lem, figure::proofs::Laws::figure_most))]
 fn figure_in_class(factors: Factors, class: u8, x0: u64) -> u64
     requires { in_range factors ≡ true }
     ensures { (result ≡ figure_of (in_class class factors) x0) × (result + result ≤ x0) }
@@ -43,6 +45,7 @@ fn figure_in_class(factors: Factors, class: u8, x0: u64) -> u64
 }
 
 // Answers the bound of a project's year from B.
+#[tactic(auto, using(figure::proofs::Laws::bound_half))]
 fn year_bound(factors: Factors, margins: u64) -> u64
     requires { in_range factors ≡ true }
     ensures { (result ≡ bound_of factors margins) × (result + result ≤ margins + 6) }
@@ -51,6 +54,7 @@ fn year_bound(factors: Factors, margins: u64) -> u64
 }
 
 // Adds a year to what those before it add up to, given its factors, and x0 and B of the year before; its number counts for nothing.
+#[tactic(auto, unfolding(crate::specs::Year::with_year, crate::specs::Year::reference_of, crate::specs::Year::project_of, crate::specs::Year::project_bound, crate::specs::Year::reference_bound, crate::specs::Year::bounds_of))]
 pub fn with_year(sums: Sums, factors: Factors, x0: u64, margins: u64) -> Sums
     requires factors_value { in_range factors ≡ true }
     requires x0_bound { (sums.reference + x0 < 2 ^ 64) × (sums.project + x0 < 2 ^ 64) × (sums.bound + margins < 2 ^ 63) }

@@ -1,6 +1,7 @@
 // Masses from sorting samples: a total that was weighed is parted among the eight types by the fractions of some sorted samples.
 // It serves request a of document 02, and is called by the package whose operators weigh whole trucks and sort a few.
 #![tactic(auto)]
+
 ghost use Rattle.std.specs.Prelude.{true, ◌&&◌, ◌≡◌, ◌+◌, ◌-◌, ◌*◌, ◌/◌, ◌%◌, ◌≤◌, ◌<◌, eqb, length, get_or};
 ghost use Rattle.numbers.specs.Eight.{eight, sum_of, every_of};
 ghost use Rattle.waste.specs.Waste.{mass_limit};
