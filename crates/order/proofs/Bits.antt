@@ -74,7 +74,7 @@ one_bit : (j n : ℕ) → j < n → bits_below (λ k. eqb (j + 1) (k + 1)) n ≡
 one_bit j zero l = absurd (omega arith)
 one_bit j (suc n) l =
     ⊎_elim
-    (λ e. rw e (omega (arith, no_bits (λ k. eqb (n + 1) (k + 1)) n (λ k m. ne_eqb (n + 1) (k + 1) (λ e. omega arith)), ap (λ (b : Bool). one b * 2 ^ n) (eq-eqb (n + 1) (n + 1) refl))))
+    (λ e. omega (arith, no_bits (λ k. eqb (j + 1) (k + 1)) n (λ k m. ne_eqb (j + 1) (k + 1) (λ e'. omega arith)), ap (λ (b : Bool). one b * 2 ^ n) (eq-eqb (j + 1) (n + 1) (omega arith)), ap (λ (k : ℕ). 2 ^ k) e))
     (λ lt. omega (arith, one_bit j n lt, ap (λ (b : Bool). one b * 2 ^ n) (ne_eqb (j + 1) (n + 1) (λ e. omega arith))))
     (eq-or-lt_of_le (le_of_suc-le-suc l))
 

@@ -1,6 +1,7 @@
 // A file whose masses stand in the order of translated names, put right: every mass at its type's place, and a report of what is not
 // as it was. It serves request g of document 02, and is called by whoever has files that the old editions wrote.
 #![tactic(auto)]
+
 ghost use Rattle.std.specs.Prelude.{◌≡◌};
 ghost use Rattle.order.specs.Repair.{repaired_of, out_left, report_left};
 
