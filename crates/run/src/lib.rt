@@ -1,6 +1,7 @@
 // Whole runs: 'One step' of document 01, its last paragraph, and request h of document 02. A file of records is taken one after
 // another, from any ledger.
 #![tactic(auto)]
+
 ghost use Rattle.std.specs.Prelude.{true, ◌≡◌, length, take};
 ghost use Rattle.numbers.specs.Eight.{eight};
 ghost use Rattle.record.specs.Fields.{record_bytes, kind_of, climate_of};
