@@ -1,6 +1,7 @@
 // A file run in stretches of 32 records, so that no caller has to lend an output buffer for all of it: 'One step' of document 01, its last
 // paragraph. The listing calls it. What a run looks up once is looked up once a stretch.
 #![tactic(auto)]
+
 ghost use Rattle.std.specs.Prelude.{◌≡◌, ◌≤◌, length, drop};
 ghost use Rattle.run.specs.History.{outcome_of, out_of, whole_run};
 ghost use Rattle.stretches.specs.Stretches.{stretch_bytes, stretch_end, stretch_run};
