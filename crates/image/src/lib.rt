@@ -1,6 +1,7 @@
 // The ledger as 200 bytes, for whoever keeps it between calls or hands it over from another language: read from an image, and
 // written as one. The entries for C and the program that runs test vectors call it.
 #![tactic(auto)]
+
 ghost use Rattle.std.specs.Prelude.{◌≡◌, ◌≤◌, length};
 ghost use Rattle.std.proofs.lemmas.List.Edits.{sets};
 ghost use Rattle.image.specs.Image.{front_of, ledger_of, imaged};
