@@ -1,14 +1,14 @@
 -- Where a listing stands at the head of its loop, and how a stretch and each end go from there.
-use mathlib.Core.Path.{◌≡◌, refl, sym, ap, subst, ◌∙◌}
-use mathlib.Core.Bool.{Bool, true, false, cond, ◌&&◌}
-use mathlib.Core.List.{List, [], ◌++◌, append_assoc, append-nil}
-use Prim.Native.Nat.{ℕ, ◌+◌, ◌-◌, ◌*◌, ◌≤◌, ◌<◌}
+use mathlib.Core.Path.{◌≡◌, refl, sym, ap, ◌∙◌}
+use mathlib.Core.Bool.{cond}
+use mathlib.Core.List.{List, [], ◌++◌, append_assoc}
+use Prim.Native.Nat.{ℕ, ◌+◌, ◌*◌, ◌≤◌, ◌<◌}
 use native.Mathlib.Decide.{dec_le, ℕ_discrete}
 use native.Mathlib.Omega.{arith}
-use borrow.Author.Tests.{eqb-true, ltb-true, ltb-false, eq-eqb, ne_eqb, le-leb, lt-leb}
-use lib.Dec.{T, eqb, ltb}
-use lib.ListN.{length, take, drop, length-drop, length-append, length-take, take-append-drop}
-use lib.Seq.{length-take-le, take_at, drop_at, drop-drop, take_all, sets-eq}
+use borrow.Author.Tests.{eq-eqb, ne_eqb, le-leb, lt-leb}
+use lib.Dec.{eqb}
+use lib.ListN.{length, take, drop, length-drop, length-append, take-append-drop}
+use lib.Seq.{length-take-le, take_at, drop_at, drop-drop, sets-eq}
 use Rattle.record.specs.Fields.{record_bytes}
 use Rattle.carbon.specs.Carbon.{most_records}
 use Rattle.ledger.specs.Step.{fresh}

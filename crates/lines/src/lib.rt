@@ -1,6 +1,7 @@
 // The listing of a whole file: the last part of document 01's section 'Worked figures'.
 // The program `listing`, the entry for C and the test vectors call it.
 #![tactic(auto)]
+
 mod by_stretch;
 mod writing;
 

@@ -7,16 +7,15 @@ use borrow.Author.Tests.{le-leb, lt-leb}
 use Rattle.record.specs.Fields.{record_bytes}
 use Rattle.run.specs.History.{records_begun}
 use Rattle.lines.specs.Listing.{most_lines}
-use Rattle.lines.proofs.most_lines.Statement.{statement}
-use Rattle.lines.proofs.most_lines.Tie as tie
+use Rattle.lines.proofs.most_lines.Goals as goal
 
 begun : (bytes : ℕ) → records_begun bytes ≡ bytes / record_bytes + records_begun (bytes % record_bytes)
 begun bytes = omega arith
 
-pub most-lines-spec : {M : Type 1} → statement M
+pub returns-then-begun-le-LINES : goal.returns-then-begun-le-LINES
 unfolding most_lines
-most-lines-spec =
-    tie.close
-    (tie.spec (λ c. search rules) (λ c. search rules) (λ c. search rules)
-    (λ c. (rw (begun c.before.args.bytes) (simp (le-leb _ _ c.if1.true)), search rules))
-    (λ c. (rw (begun c.before.args.bytes) (simp (lt-leb _ _ c.if1.false)), search rules)))
+returns-then-begun-le-LINES c = (rw (begun c.args.bytes) (simp (le-leb _ _ c.if-begun-le-LINES.true)), search rules)
+
+pub returns-else-begun-le-LINES : goal.returns-else-begun-le-LINES
+unfolding most_lines
+returns-else-begun-le-LINES c = (rw (begun c.args.bytes) (simp (lt-leb _ _ c.if-begun-le-LINES.false)), search rules)
