@@ -13,29 +13,20 @@ prepare "$@"
 peers='library reference exp-each exp-once equation'
 counts='0012 0120 1200'
 
-# Prints how many instructions a program executes. Under the emulator each leaves a line in a log, and the lines are counted.
-by_emulator() {
-    rm -f "$target/log"
-    mkfifo "$target/log"
-    grep -c '^Trace' <"$target/log" &
-    "$emulator" -one-insn-per-tb -d exec,nochain -D "$target/log" "$@"
-    wait $!
-    rm -f "$target/log"
-}
+# Prints how many instructions a program executes.
 by_perf() { perf stat -x, -e instructions:u "$@" 2>&1 >/dev/null | awk -F, '/instructions/ { print $1 }'; }
 by_valgrind() {
     valgrind --tool=callgrind --callgrind-out-file=/dev/null "$@" 2>&1 >/dev/null | awk '/Collected/ { print $4 }'
 }
 
-if [ -n "$emulator" ]; then counter=by_emulator
-elif perf stat -e instructions:u true 2>&1 | grep -q '[0-9].*instructions'; then counter=by_perf
+if perf stat -e instructions:u true 2>&1 | grep -q '[0-9].*instructions'; then counter=by_perf
 elif command -v valgrind >/dev/null; then counter=by_valgrind
 else stop "neither perf nor valgrind counts instructions here"
 fi
 
 build bench -Ibench bench/*.c tests/c/inputs.c tests/c/reference.c tests/c/entries.c tests/c/reference_years.c \
     tests/c/reference_columns.c tests/c/reference_totals.c "$library"
-run "$target/bench" compare >"$target/compare" || stop "something is refused, or two answers differ: see tests/c/run.sh"
+"$target/bench" compare >"$target/compare" || stop "something is refused, or two answers differ: see tests/c/run.sh"
 
 # Lines of PEER RECORDS INSTRUCTIONS, the program's cost with no records taken off.
 measure() {
@@ -137,12 +128,12 @@ END
 cat "$target/compare"
 
 # Bytes that a section takes in a program, by the sections of all members of an archive or an object.
-sections() { "${prefix}size" -A "$1" | awk '$1 ~ /^\.(text|rodata|data|bss|eh_frame)/ && $2 > 0 { print $2, $1 }'; }
+sections() { size -A "$1" | awk '$1 ~ /^\.(text|rodata|data|bss|eh_frame)/ && $2 > 0 { print $2, $1 }'; }
 total() { sections "$1" | awk '{ total += $1 } END { print total + 0 }'; }
 
 # What is linked of the library for one entry.
 linked_for() {
-    "${prefix}ld" -r --gc-sections -e "$1" -u "$1" -o "$target/linked.o" "$library"
+    ld -r --gc-sections -e "$1" -u "$1" -o "$target/linked.o" "$library"
     total "$target/linked.o"
 }
 

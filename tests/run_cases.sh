@@ -4,18 +4,13 @@
 #
 #   tests/run_cases.sh [SEED...]        seeds 2 and 3 where none is named
 #
-# Build the program first: rt check cases. Ends with the number of files and of differences, and with status 1 if there are any.
+# Build the program first: bash tools/run.sh cases </dev/null. Ends with the number of files and of differences, and
+# with status 1 if there are any.
 set -eu
 cd "$(dirname "$0")/.."
-program=target/bin/cases
-[ -x "$program" ] || { echo "no $program: run rt check cases first" >&2; exit 2; }
+program=crates/cases/out/cases
+[ -x "$program" ] || { echo "no $program: run bash tools/run.sh cases </dev/null first" >&2; exit 2; }
 [ $# -gt 0 ] || set -- 2 3
-
-# Programs are for x86-64 and run with the toolchain's C library; on another processor its emulator runs them, as rt does.
-tools=$(dirname "$(rt doc)")/../on/$(uname -m)/toolchain
-emulator=$tools/bin/qemu-x86_64
-[ -x "$emulator" ] || emulator=
-run() { ${emulator:+"$emulator"} "$tools/lib/ld-linux-x86-64.so.2" --library-path "$tools/lib" "$program"; }
 
 room=$(mktemp -d)
 trap 'rm -rf "$room"' EXIT
@@ -30,7 +25,7 @@ for input in "$room/$1"/stop-*.bin "$room"/*/cases.bin; do
     files=$((files + 1))
     # A pipe hands over less than is asked for, which a file does not.
     # shellcheck disable=SC2002
-    cat "$input" | run >"$room/printed" || echo "${input#"$room/"}: status $?"
+    cat "$input" | "$program" >"$room/printed" || echo "${input#"$room/"}: status $?"
     cmp "$room/printed" "${input%.bin}.txt" >"$room/first" 2>&1 && continue
     differences=$((differences + 1))
     sed "s|$room/||g" "$room/first"

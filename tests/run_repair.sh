@@ -3,17 +3,12 @@
 #
 #   tests/run_repair.sh
 #
-# Build the program first: rt check repair. Ends with the number of runs and of differences, and with status 1 if there are any.
+# Build the program first: bash tools/run.sh repair </dev/null. Ends with the number of runs and of differences, and
+# with status 1 if there are any.
 set -eu
 cd "$(dirname "$0")/.."
-program=target/bin/repair
-[ -x "$program" ] || { echo "no $program: run rt check repair first" >&2; exit 2; }
-
-# Programs are for x86-64 and run with the toolchain's C library; on another processor its emulator runs them, as rt does.
-tools=$(dirname "$(rt doc)")/../on/$(uname -m)/toolchain
-emulator=$tools/bin/qemu-x86_64
-[ -x "$emulator" ] || emulator=
-run() { ${emulator:+"$emulator"} "$tools/lib/ld-linux-x86-64.so.2" --library-path "$tools/lib" "$program" "$@"; }
+program=crates/repair/out/repair
+[ -x "$program" ] || { echo "no $program: run bash tools/run.sh repair </dev/null first" >&2; exit 2; }
 
 room=$(mktemp -d)
 trap 'rm -rf "$room"' EXIT
@@ -35,7 +30,7 @@ expect() {
     shift 4
     runs=$((runs + 1))
     # shellcheck disable=SC2002
-    cat "$input" | run "$@" >"$room/written" 2>"$room/said" || wrong "$name: status $?"
+    cat "$input" | "$program" "$@" >"$room/written" 2>"$room/said" || wrong "$name: status $?"
     same "$name, output" "$room/written" "$output"
     same "$name, account" "$room/said" "$room/line"
 }
@@ -114,7 +109,7 @@ unread() {
     name=$1
     shift
     runs=$((runs + 1))
-    { run "$@" 2>"$room/said" || echo "status $?"; cat; } <"$room/old" >"$room/written"
+    { "$program" "$@" 2>"$room/said" || echo "status $?"; cat; } <"$room/old" >"$room/written"
     same "$name, what is left of the input" "$room/written" "$room/old"
     same "$name, usage" "$room/said" "$room/usage"
 }
@@ -131,7 +126,7 @@ fails() {
     printf '%s\n' "$4" >"$room/line"
     shift 4
     runs=$((runs + 1))
-    run "$@" <"$input" >"$output" 2>"$room/said" || wrong "$name: status $?"
+    "$program" "$@" <"$input" >"$output" 2>"$room/said" || wrong "$name: status $?"
     same "$name" "$room/said" "$room/line"
 }
 fails 'a read that fails' . "$room/written" 'repair: standard input: Is a directory' 31245678

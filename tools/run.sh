@@ -2,7 +2,7 @@
 # usage: bash tools/run.sh NAME [WORDS...]
 #
 # Runs the program NAME of this repository on standard input, with WORDS as its arguments. Where its sources, or any that it
-# stands on, have changed since they were proved, they are proved and the program is built first: some two minutes from nothing.
+# stands on, have changed since they were proved, they are proved and the program is built first: some minutes from nothing.
 #
 # A program has no exit status of its own. The status tells how it went:
 #   0  the program ended well
@@ -33,35 +33,39 @@ if [ -z "$known" ]; then
 fi
 shift
 command -v rt >/dev/null || { say "no rt on the PATH: it comes with the Rattle kit"; exit 3; }
-program=$root/target/bin/$name
+folder=$root/crates/$name
+program=$folder/out/$name
 room=$(mktemp -d) || exit 3
 trap 'rm -rf "$room"' EXIT
 
-# One check at a time, as all of them write to target/. Where the program alone is gone, rt has to be made to build it.
-exec 9<"$root/crates.txt"
-! command -v flock >/dev/null || flock 9
-[ -x "$program" ] || rm -f "$root/target/stamp/$name"
-exec 8< <(cd "$root" && rt check "$name" </dev/null >"$room/log" 2>&1; echo $?)
+# Where nothing has changed since the program was proved and built, `rt run` only runs it on its stored sample: the files stdin and
+# args beside src/, and what it must write, stdout.
+sample() {
+    cd "$folder" || return
+    local words=() wanted=0 status=0
+    [ ! -f args ] || mapfile -t words <args
+    [ ! -f status ] || wanted=$(cat status)
+    [ ! -f stdin ] || exec <stdin
+    rt run ${words[0]+-- "${words[@]}"} >"$room/sample" 2>"$room/log" || status=$?
+    [ "$status" -eq "$wanted" ] || return
+    [ ! -f stdout ] || exec <stdout
+    cmp - "$room/sample" >>"$room/log" 2>&1
+}
+exec 8< <(sample </dev/null; echo $?)
 { [ -x "$program" ] && read -r -t 5 checked <&8; } || {
-    say "$name is proved first: some two minutes where nothing is proved yet"
+    say "$name is proved first: some minutes where nothing is proved yet"
     read -r checked <&8
 }
-exec 8<&- 9<&-
+exec 8<&-
 if [ "${checked:-}" != 0 ]; then
     cat "$room/log" >&2
     say "$name was not run: see above"
     exit 3
 fi
 
-# Programs are for x86-64 and run with the kit's C library; on another machine the kit's emulator runs them.
-tools=$(dirname "$(dirname "$(rt doc </dev/null)")")/on/$(uname -m)/toolchain
-emulator=$tools/bin/qemu-x86_64
-[ -x "$emulator" ] || emulator=''
-start() { ${emulator:+"$emulator"} "$tools/lib/ld-linux-x86-64.so.2" --library-path "$tools/lib" "$program" "$@"; }
-
 # Standard error passes through a copy; standard output goes its own way, by 3.
 run() {
-    start "$@" 2>&1 >&3 3>&- | tee "$room/said" >&2
+    "$program" "$@" 2>&1 >&3 3>&- | tee "$room/said" >&2
     return "${PIPESTATUS[0]}"
 }
 case $name in

@@ -1,5 +1,5 @@
-# Sourced by the scripts that build C. Sets gcc and its tools for x86-64, the emulator where the machine is not x86-64,
-# and the library to link; installs Debian's packages where the compiler or its static C library is missing.
+# Sourced by the scripts that build C. Finds gcc and the library to link; installs Debian's packages where the compiler or its
+# static C library is missing.
 # The scripts have `set -eu`, stand at the repository's root, and pass their words on to `read_words`.
 
 target=target/c
@@ -23,42 +23,20 @@ read_words() {
     done
 }
 
-has_compiler() { command -v "$gcc" >/dev/null && [ -f "$("$gcc" -print-file-name=libc.a)" ]; }
+has_compiler() { command -v gcc >/dev/null && [ -f "$(gcc -print-file-name=libc.a)" ]; }
 
 find_compiler() {
-    case $(uname -m) in
-    x86_64) prefix='' packages='gcc libc6-dev' ;;
-    aarch64) prefix=x86_64-linux-gnu- packages='gcc-x86-64-linux-gnu libc6-dev-amd64-cross' ;;
-    *) stop "neither x86-64 nor aarch64: $(uname -m)" ;;
-    esac
-    gcc=${prefix}gcc ar=${prefix}ar
-    if ! has_compiler; then
-        { apt-get update && apt-get install -y --no-install-recommends $packages; } >&2
-        has_compiler || stop "$packages are installed, but $gcc cannot link statically"
-    fi
-    # Debian's cross libm.a is a script with paths of the native one, so that the archive itself is linked.
-    maths=-lm
-    for file in "$(dirname "$("$gcc" -print-file-name=libc.a)")"/libm-*.a; do
-        [ ! -f "$file" ] || maths=$file
-    done
+    [ "$(uname -m)" = x86_64 ] || stop "the library and its tests are for x86-64, and this machine is $(uname -m)"
+    has_compiler && return 0
+    { apt-get update && apt-get install -y --no-install-recommends gcc libc6-dev; } >&2
+    has_compiler || stop "gcc and libc6-dev are installed, but gcc cannot link statically"
 }
-
-# Programs for x86-64 run under the emulator of the Rattle kit where the machine is another.
-find_emulator() {
-    emulator=''
-    [ "$(uname -m)" != x86_64 ] || return 0
-    kit=${RATTLE_HOME:-$(dirname "$(dirname "$(readlink -f "$(command -v rt)")")")}
-    emulator=$kit/on/$(uname -m)/toolchain/bin/qemu-x86_64
-    [ -x "$emulator" ] || stop "no emulator at $emulator"
-}
-
-run() { ${emulator:+"$emulator"} "$@"; }
 
 # Links a program: build NAME SOURCE... makes $target/NAME.
 build() {
     name=$1
     shift
-    "$gcc" $flags -static -o "$target/$name" "$@" "$maths"
+    gcc $flags -static -o "$target/$name" "$@" -lm
 }
 
 # Makes an archive of the reference under the library's names: $target/standin/libstandin.a.
@@ -69,16 +47,16 @@ standin() {
         sed 's/reference_/standin_/g' "tests/c/$file" >"$target/standin/$file"
     done
     for file in reference entries reference_years reference_columns reference_totals standin; do
-        "$gcc" -std=c11 -O2 -Iinclude -ffunction-sections -c -o "$target/standin/$file.o" "$target/standin/$file.c"
+        gcc -std=c11 -O2 -Iinclude -ffunction-sections -c -o "$target/standin/$file.o" "$target/standin/$file.c"
     done
-    "$ar" rc "$target/standin/libstandin.a" "$target"/standin/*.o
+    ar rc "$target/standin/libstandin.a" "$target"/standin/*.o
 }
 
 # Proves and builds the library, unless another file or the stand-in is to be linked in its place.
 find_library() {
     case $library in
     '')
-        rt staticlib landfill >&2 || stop "rt staticlib landfill has not built the library"
+        bash tools/staticlib.sh >&2 || stop "tools/staticlib.sh has not built the library"
         library=target/staticlib/liblandfill.a
         ;;
     standin) standin; library=$target/standin/libstandin.a ;;
@@ -90,6 +68,5 @@ prepare() {
     read_words "$@"
     mkdir -p "$target"
     find_compiler
-    find_emulator
     find_library
 }

@@ -11,7 +11,7 @@ prepare --library "$1"
 # Writes a library's answers: answers NAME FILE makes $target/NAME.bin.
 answers() {
     build "$1" tests/c/look_ups.c "$2"
-    run "$target/$1" >"$target/$1.bin"
+    "$target/$1" >"$target/$1.bin"
 }
 answers look_ups-1 "$1"
 answers look_ups-2 "$2"

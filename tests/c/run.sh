@@ -1,5 +1,5 @@
 #!/usr/bin/env bash
-# Builds the C programs for x86-64 and runs them: the example, the library against the reference, the door under all modes.
+# Builds the C programs and runs them: the example, the library against the reference, the door under all modes.
 # Usage: bash tests/c/run.sh [--library FILE | --standin] [--seed NUMBER]
 #   --library FILE   links this archive in the place of target/staticlib/liblandfill.a
 #   --standin        links the reference in the library's place, to try the test itself
@@ -8,10 +8,10 @@ cd "$(dirname "$0")/../.."
 . tests/c/build.sh
 prepare "$@"
 
-# The header compiles without a warning, and its helpers give the bytes written out by hand. C++ takes the machine's own g++.
+# The header compiles without a warning, and its helpers give the bytes written out by hand.
 for standard in c99 c11; do
     build "header-$standard" -std=$standard -Wpedantic tests/c/header.c
-    run "$target/header-$standard"
+    "$target/header-$standard"
 done
 echo "header: as expected in C99 and C11"
 if command -v g++ >/dev/null; then
@@ -25,15 +25,15 @@ else
 fi
 
 build example tests/c/example.c "$library"
-run "$target/example" >"$target/example.txt"
+"$target/example" >"$target/example.txt"
 diff tests/c/example.txt "$target/example.txt"
 echo "example: as expected"
 
 sources=$(printf 'tests/c/%s.c ' $differential)
 build differential $sources "$library"
-run "$target/differential" "$seed"
+"$target/differential" "$seed"
 
 # The reference works with floats, so that the modes change its answers.
 [ "$library" != "$target/standin/libstandin.a" ] || exit 0
 build modes tests/c/modes.c tests/c/inputs.c tests/c/reference.c "$library"
-run "$target/modes" "$seed"
+"$target/modes" "$seed"

@@ -10,7 +10,7 @@ prepare --standin
 
 objects=''
 for file in $differential; do
-    "$gcc" $flags -c -o "$target/$file.o" "tests/c/$file.c"
+    gcc $flags -c -o "$target/$file.o" "tests/c/$file.c"
     objects="$objects $target/$file.o"
 done
 
@@ -18,7 +18,7 @@ done
 build_slip() {
     sed "$2" "$target/standin/$1" >"$target/slip.c"
     ! cmp -s "$target/standin/$1" "$target/slip.c" || stop "nothing to edit in $1: $2"
-    "$gcc" -std=c11 -O2 -Iinclude -I"$target/standin" -c -o "$target/slip.o" "$target/slip.c"
+    gcc -std=c11 -O2 -Iinclude -I"$target/standin" -c -o "$target/slip.o" "$target/slip.c"
     others=''
     for other in reference entries reference_years reference_columns reference_totals standin; do
         [ "$other.c" = "$1" ] || others="$others $target/standin/$other.o"
@@ -54,7 +54,7 @@ while IFS='|' read -r slip file edit; do
     *) part='' ;;
     esac
     status=0
-    run "$target/slip" $part >"$target/slip.txt" </dev/null || status=$?
+    "$target/slip" $part >"$target/slip.txt" </dev/null || status=$?
     if [ "$status" -eq 1 ] && tail -n 1 "$target/slip.txt" | grep -q "$verdict"; then
         caught=$((caught + 1))
     else
