@@ -3,12 +3,12 @@
 #
 #   tests/run_repair.sh
 #
-# Build the program first: bash tools/run.sh repair </dev/null. Ends with the number of runs and of differences, and
+# Build the program first: bash tools/run.sh repair 12345678 </dev/null. Ends with the number of runs and of differences, and
 # with status 1 if there are any.
 set -eu
 cd "$(dirname "$0")/.."
 program=crates/repair/out/repair
-[ -x "$program" ] || { echo "no $program: run bash tools/run.sh repair </dev/null first" >&2; exit 2; }
+[ -x "$program" ] || { echo "no $program: run bash tools/run.sh repair 12345678 </dev/null first" >&2; exit 2; }
 
 room=$(mktemp -d)
 trap 'rm -rf "$room"' EXIT
