@@ -56,5 +56,5 @@ each_of_map f done [] rest i e = tt
 each_of_map f done (x ∷ xs) rest i e = (
   get_or_at done (f x) (map f xs ++ rest) 0 i e,
   subst (λ (l : List ℕ). Each (λ j y. get_or l j 0 ≡ f y) (i + 1) xs) (append_snoc done (f x) (map f xs ++ rest))
-  (each_of_map f (done ++ (f x ∷ [])) xs rest (i + 1) (omega (arith, length_more done (f x), e))),
+      (each_of_map f (done ++ (f x ∷ [])) xs rest (i + 1) (omega (arith, length_more done (f x), e))),
 )
