@@ -8,6 +8,7 @@ ghost use Rattle.by_type.specs.Across.{HoldsReleases, HoldsAt, across_at, figure
 use record::Factors;
 
 // Answers the sum of the eight columns at a place, in mg.
+#[tactic(auto, unfolding(by_type::specs::Across::across_at))]
 fn across(
     wood: &[u64],
     paper: &[u64],
