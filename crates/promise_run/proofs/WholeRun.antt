@@ -9,7 +9,7 @@ use Rattle.record.specs.Fields.{record_bytes}
 use Rattle.ledger.specs.Step.{after}
 use Rattle.ledger.specs.Refusal.{refusal_of}
 use Rattle.ledger.specs.Take.{take_of, accepted_of}
-use Rattle.run.specs.History.{Turn, accepted, records_of, in_turn, Run, run_of, out_of, outcome_of}
+use Rattle.run.specs.History.{Turn, records_of, in_turn, Run, run_of, out_of, outcome_of}
 use Rattle.ledger.specs.declared.book.Ledger.{Ledger}
 use Rattle.ledger.proofs.Take.{take_refusal}
 use Rattle.run.proofs.History.{on_from, accepted_turn, run_goes_on, run_stops, run_ends, outputs_length}

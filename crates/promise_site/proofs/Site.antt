@@ -8,7 +8,7 @@ use Rattle.record.specs.Fields.{record_bytes}
 use Rattle.ledger.specs.Step.{fresh, after}
 use Rattle.ledger.specs.Refusal.{refusal_of}
 use Rattle.ledger.specs.Take.{accepted_of}
-use Rattle.run.specs.History.{Turn, turns, accepted, records_of, in_turn, run_of}
+use Rattle.run.specs.History.{Turn, turns, records_of, in_turn, run_of}
 use Rattle.ledger.specs.declared.book.Ledger.{Ledger}
 use Rattle.run.proofs.History.{accepted_turn, run_goes_on, run_stops, run_ends}
 use Rattle.image.specs.Image.{image_bytes, image_of, fresh_left, ledger_of, Kept}
