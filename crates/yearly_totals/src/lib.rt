@@ -1,6 +1,7 @@
 // Yearly totals beside a monthly run: request l of document 02. A package that records by month and reports by year calls `take_month` or
 // `run_months` for all records of a site, and keeps the buffer of totals with the ledger.
 #![tactic(auto)]
+
 mod year;
 
 ghost use Rattle.std.specs.Prelude.{◌≡◌, length};
