@@ -1,6 +1,7 @@
 // What a call makes of the buffers that are lent to it: one record, or a file of them, from image to image. The entries for C
 // hand their buffers over to it: 'One step' of document 01, and its last paragraph.
 #![tactic(auto)]
+
 ghost use Rattle.std.specs.Prelude.{◌≡◌, length};
 ghost use Rattle.ledger.specs.Take.{take_of, written_of};
 ghost use Rattle.run.specs.History.{out_of, work_over};

@@ -1,0 +1,37 @@
+-- The run decides; where it accepts nothing the image stays.
+use mathlib.Core.Path.{◌≡◌, sym, ap, ◌∙◌}
+use native.Mathlib.Omega.{arith}
+use lib.ListN.{length}
+use Rattle.run.specs.History.{records_of, outcome_of}
+use Rattle.run.specs.declared.Outcome.{Outcome}
+use Rattle.calls.specs.Calls.{run_here}
+use Rattle.calls.proofs.Takes.{run_next, run_stays}
+use Rattle.calls.proofs.run.Goals as goal
+
+pub returns-then-end-gt0 : goal.returns-then-end-gt0
+unfolding run_here outcome_of
+returns-then-end-gt0 c =
+    let a = c.args in
+    let done : c.run-end.result ≡ outcome_of (run_here a.image.now a.records.now (length a.out.now)) = rw c.read.ensures at c.run-end.ensures.value in
+    let count = ap (λ (o : Outcome). o.accepted) done in
+    record {
+      value = ap (λ (o : Outcome). o.refusal) done;
+      image_after = c.write.ensures ∙ rw done (run_next a.image.now (records_of a.records.now) (length a.out.now) (omega (arith, count, c.if-end-gt0.true)));
+      out_after = rw c.read.ensures at c.run-end.ensures.out_after;
+      accepted_after = count;
+      work_after = ap (λ (o : Outcome). o.work) done;
+    }
+
+pub returns-else-end-gt0 : goal.returns-else-end-gt0
+unfolding run_here outcome_of
+returns-else-end-gt0 c =
+    let a = c.args in
+    let done : c.run-end.result ≡ outcome_of (run_here a.image.now a.records.now (length a.out.now)) = rw c.read.ensures at c.run-end.ensures.value in
+    let count = ap (λ (o : Outcome). o.accepted) done in
+    record {
+      value = ap (λ (o : Outcome). o.refusal) done;
+      image_after = sym (run_stays a.image.now (run_here a.image.now a.records.now (length a.out.now)) (omega (arith, count, c.if-end-gt0.false)));
+      out_after = rw c.read.ensures at c.run-end.ensures.out_after;
+      accepted_after = count;
+      work_after = ap (λ (o : Outcome). o.work) done;
+    }
