@@ -1,6 +1,7 @@
 // What a call with yearly totals makes of the buffers that are lent to it, from image to image: request l of document 02. The entries for C
 // hand their buffers over to it.
 #![tactic(auto)]
+
 ghost use Rattle.std.specs.Prelude.{◌≡◌, length};
 ghost use Rattle.run.specs.History.{out_of, work_over};
 ghost use Rattle.calls.specs.Calls.{answered, image_then, out_then, run_image};
