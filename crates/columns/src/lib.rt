@@ -1,6 +1,7 @@
 // A file worked out column by column, one sheet for each waste type: request j of document 02. Whoever checks the ledger calls `fill` and
 // holds its columns to the run's answers. The first engine judges the file; the numbers come from loops of their own.
 #![tactic(auto)]
+
 ghost use Rattle.std.specs.Prelude.{false, ◌||◌, ◌≡◌, ltb};
 ghost use Rattle.numbers.specs.Eight.{eight};
 ghost use Rattle.by_type.specs.Columns.{nine, columns_of, filled_of};
