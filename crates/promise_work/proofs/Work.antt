@@ -14,13 +14,12 @@ use Rattle.numbers.proofs.Eight.{sum_first, sum_same, sum_most}
 use Rattle.waste.specs.Waste.{inert, carbon_of}
 use Rattle.waste.proofs.Laws.{carbon_some}
 use Rattle.record.specs.Fields.{record_bytes, kind_of, climate_of, dry_of, mass_of, deposit_of}
-use Rattle.carbon.specs.Carbon.{most_records, entry_at}
+use Rattle.carbon.specs.Carbon.{entry_at}
 use Rattle.carbon.proofs.Laws.{entry_small, left_less}
 use Rattle.ledger.specs.Step.{stock_at, held, new_stock, release, work, work_of, after}
 use Rattle.ledger.specs.Refusal.{refusal_of}
-use Rattle.ledger.specs.Take.{accepted_of, take_of}
+use Rattle.ledger.specs.Take.{accepted_of}
 use Rattle.ledger.specs.declared.book.Ledger.{Ledger}
-use Rattle.ledger.specs.declared.answer.Answer.{Answer}
 use Rattle.ledger.proofs.Accepted.{accepted_meets, no_carbon}
 use Rattle.ledger.proofs.Settle.{none_to_decay, work_most}
 use Rattle.ledger.proofs.Step.{release_answered}
