@@ -23,6 +23,7 @@ pub struct YearsTaken {
 
 // Answers the refusal of a record in this mode, given its refusal in a run with room for its output, and its kind. The tests before 6
 // have the numbers up to 5.
+#[tactic(auto, unfolding(crate::specs::Walk::as_yearly))]
 fn as_yearly(refusal: u8, kind: u8) -> u8
     ensures { result ≡ as_yearly refusal (is_monthly kind) }
 {
@@ -33,6 +34,7 @@ fn as_yearly(refusal: u8, kind: u8) -> u8
 }
 
 // Answers that no year was walked over.
+#[tactic(auto, unfolding(crate::specs::Walk::none_walked))]
 fn none_walked() -> Walked
     ensures { result ≡ none_walked }
 {

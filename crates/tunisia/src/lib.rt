@@ -1,6 +1,7 @@
 // Reductions under the Tunisian reference method: request i of document 02, after source 002. A package that reports a project of
 // that method calls `reduction_over` with the site's yearly records.
 #![tactic(auto)]
+
 mod accepted;
 mod year;
 
