@@ -1,5 +1,6 @@
 -- As many bytes as were asked for.
-use Rattle.std.proofs.Common.{ℕ, ◌+◌, length-replicate}
+use Rattle.std.proofs.Common.{ℕ}
+use Rattle.std.proofs.lemmas.List.{length-replicate}
 use Rattle.repair.specs.Rooms.{file_bytes}
 use Rattle.repair.proofs.file_room.Goals as goal
 
