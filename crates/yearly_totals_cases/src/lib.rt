@@ -1,6 +1,7 @@
 // The cases of yearly totals, as docs/CASES.md has them: a step and a run. Each prints the line of its payload on standard output, and
 // nothing for a payload that is too short for it; no contract can say what is printed. The program `cases` calls them.
 #![tactic(auto)]
+
 ghost use Rattle.std.specs.Prelude.{◌≡◌, ◌≤◌, length};
 
 // What comes before the totals of a step, and of a run: the image, the room in 2 bytes or in 4, and in 2 bytes each the length of the
