@@ -12,7 +12,7 @@ use Rattle.ledger.specs.Take.{accepted_of, take_of}
 use Rattle.ledger.specs.declared.book.Ledger.{Ledger}
 use Rattle.ledger.proofs.Accepted.{accepted_meets, accepted_sound}
 use Rattle.ledger.proofs.Take.{taken, take_refusal}
-use Rattle.run.specs.History.{Offer, Turn, turn_of, turns, AllAccepted, in_turn}
+use Rattle.run.specs.History.{Offer, turn_of, turns, AllAccepted, in_turn}
 use Rattle.promise_more.specs.More.{EqualButMasses, MoreWaste, WithinLimit, Pairs, Offered, LightOffer, TurnNoLess}
 use Rattle.promise_more.proofs.Records.{SamePlace, place_after, accepts_too}
 use Rattle.promise_more.proofs.Steps.{HoldsMore, more_after, no_less}

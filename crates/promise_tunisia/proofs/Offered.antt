@@ -7,7 +7,6 @@ use Rattle.numbers.proofs.Fault.{inserted_clear}
 use Rattle.waste.specs.Kind.{is_monthly}
 use Rattle.record.specs.Fields.{record_bytes, kind_of}
 use Rattle.refusal.specs.Refusal.{faults_of}
-use Rattle.ledger.specs.Step.{fresh}
 use Rattle.ledger.specs.Refusal.{sound, refusal_of}
 use Rattle.ledger.specs.Take.{accepted_of}
 use Rattle.ledger.specs.declared.book.Ledger.{Ledger}
