@@ -2,6 +2,7 @@
 // standard output, and nothing for a payload that is too short for it; no contract can say what is printed. The program `cases`
 // calls them.
 #![tactic(auto)]
+
 ghost use Rattle.std.specs.Prelude.{◌≡◌, ◌≤◌, length, take};
 ghost use Rattle.image.specs.Image.{image_bytes, ledger_of};
 ghost use Rattle.lines.specs.Listing.{most_text};

@@ -1,6 +1,7 @@
 // The case of sorting samples, as docs/CASES.md has it. It prints the line of its payload on standard output, and nothing for a
 // payload that is too short for it; no contract can say what is printed. The program `cases` calls it.
 #![tactic(auto)]
+
 ghost use Rattle.std.specs.Prelude.{◌≡◌};
 
 use samples::Sorted;

@@ -1,6 +1,7 @@
 // The cases of the correction factor from uncertainties, as docs/CASES.md has them. Each prints the line of its payload on standard
 // output, and nothing for a payload that is too short for it; no contract can say what is printed. The program `cases` calls them.
 #![tactic(auto)]
+
 ghost use Rattle.std.specs.Prelude.{◌≡◌, ◌≤◌, length};
 
 use uncertainty::{ModelFactor, Uncertainties};
