@@ -93,6 +93,7 @@ fn first_refusal(file: &[u8]) -> u8
 }
 
 // Answers the accepted years of a file, none where its first record is monthly, and what those of the stretch add up to.
+#[tactic(auto, using(crate::proofs::ByYear::months_taken), unfolding(crate::specs::Walk::none_walked))]
 pub(crate) fn accepted_years(file: &[u8], first: u64, last: u64) -> YearsTaken
     ensures value { result ≡ taken_over first last (accepted_years file.now) (refusal_after file.now) }
     ensures sums_fit { (SumsFit result.sums) × (result.years ≤ most_records) }

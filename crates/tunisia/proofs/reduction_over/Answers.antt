@@ -8,13 +8,10 @@ use Rattle.tunisia.proofs.Answers.{refused_is, answered-is}
 use Rattle.tunisia.proofs.Ranges.{with_size}
 use Rattle.tunisia.proofs.reduction_over.Goals as goal
 
-pub returns-then-refusal-ne0 : goal.returns-then-refusal-ne0
-returns-then-refusal-ne0 c =
+pub returns-then-refusal-ne0-clause-value : goal.returns-then-refusal-ne0-clause-value
+returns-then-refusal-ne0-clause-value c =
     let a = c.args in
-    let sized =
-    with_size a.file.now a.first a.last a.electricity.now a.fuel.now
-    (refused_is a.file.now a.first a.last a.electricity.now a.fuel.now c.accepted_years-accepted.ensures.value c.stretch_refusal-refusal.ensures c.if-refusal-ne0.true) in
-    record { value = sized.0; reduction_bound = sized.1 }
+    refused_is a.file.now a.first a.last a.electricity.now a.fuel.now c.accepted_years-accepted.ensures.value c.stretch_refusal-refusal.ensures c.if-refusal-ne0.true
 
 pub all_grams-requires : goal.all_grams-requires
 all_grams-requires c =
