@@ -1,22 +1,16 @@
 -- Each number is what its call ensures, and the totals of small numbers fit 64 bits. Where there was no decay work x0 is 0, and no figure is
 -- above x0.
-use Rattle.std.proofs.Common.{◌≡◌, get_or, ◌∙◌, arith}
+use Rattle.std.proofs.Common.{get_or, arith}
 use Rattle.record.specs.Fields.{factors_of}
 use Rattle.carbon.proofs.Laws.{sum_fits}
-use Rattle.figure.specs.Figure.{figure_of}
 use Rattle.figure.proofs.Laws.{figure_most}
 use Rattle.figure.proofs.filed.Goals as goal
-use Rattle.figure.proofs.filed.Goals.{then-work-eq0, else-work-eq0}
 
 pub returns : goal.returns
 returns c =
     let a = c.args in
     let s = c.requires in
-    let figure : c.if-work-eq0.figure ≡ figure_of (factors_of a.bytes.now) a.x0 =
-    elim c.if-work-eq0.branch [
-      | then-work-eq0 w ↦ w.figure-is ∙ omega (arith, s.x0_value w.if-work-eq0.true, figure_most (factors_of a.bytes.now) a.x0 s.bytes_value)
-      | else-work-eq0 w ↦ w.figure-is ∙ w.figure-figure.ensures ∙ rw c.of-factors.ensures
-    ] in
+    let most = figure_most (factors_of a.bytes.now) a.x0 s.bytes_value in
     simp (
       c.climate.ensures,
       c.kind.ensures,
@@ -24,8 +18,8 @@ returns c =
       c.bound-bound.ensures,
       c.margins.ensures,
       c.total-left.ensures,
-      figure,
       c.of-factors.ensures,
       sum_fits (λ t. get_or a.stock t 0) (λ t h. (s.by_index t h).1),
       sum_fits (λ t. get_or a.brought t 0) (λ t h. (s.by_index t h).0),
     )
+    (grind (arith, most, s.x0_value, c.of-factors.ensures))
