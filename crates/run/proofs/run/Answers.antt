@@ -84,7 +84,8 @@ loop-t-preserved c =
 
 pub enter-entered-requires : goal.enter-entered-requires
 enter-entered-requires c =
-    let ok = passed c.records.invariant.0 (sym c.early-refusal.ensures ∙ c.if-refusal-ne0.false) (λ t b. c.loop-t.invariant.1 t (omega (arith, c.loop-t-test.false))) in
+    let none : c.early-refusal.result ≡ 0 = omega arith in
+    let ok = passed c.records.invariant.0 (sym c.early-refusal.ensures ∙ none) (λ t b. c.loop-t.invariant.1 t (omega (arith, c.loop-t-test.false))) in
     rw (add-sub_cancel_left c.records.at 48, lent_length c.records.out c.records.at (ready c.args.records.now c.args.out.now c.records.out c.records.at (length c.records.invariant.0.done) c.reach-reach.result c.reach-reach.ensures c.records.invariant.0.counted c.records.invariant.0.as_long (omega arith)).in_out)
     (record { out_value = ok; entries_value = c.records.invariant.0.fit ok })
 
@@ -102,7 +103,8 @@ overflow_add-work c =
 pub records-preserved : goal.records-preserved
 unfolding entered_of accepted_of
 records-preserved c =
-    let ok = passed c.records.invariant.0 (sym c.early-refusal.ensures ∙ c.if-refusal-ne0.false) (λ t b. c.loop-t.invariant.1 t (omega (arith, c.loop-t-test.false))) in
+    let none : c.early-refusal.result ≡ 0 = omega arith in
+    let ok = passed c.records.invariant.0 (sym c.early-refusal.ensures ∙ none) (λ t b. c.loop-t.invariant.1 t (omega (arith, c.loop-t-test.false))) in
     let r = (ready c.args.records.now c.args.out.now c.records.out c.records.at (length c.records.invariant.0.done) c.reach-reach.result c.reach-reach.ensures c.records.invariant.0.counted c.records.invariant.0.as_long (omega arith)) in
     let at = c.records.at in
     let l = c.records.ledger in
