@@ -1,12 +1,12 @@
-// What is told on standard error where a read or a write fails.
+// What the programs write to standard error when a read or a write fails.
 ghost use Rattle.std.specs.Prelude.{◌≤◌, length};
 
 use std::io::{Error, Write};
 
-// The room for the words of an error, with its number behind them.
+// The room for the words of an error and the number after them.
 const WORDS: usize = 320;
 
-// Answers how many bytes the words of an error have: those ahead of its number, or of the zeros where it has none.
+// Answers how many bytes the words of an error have: those before its number, or before the zeros where it has none.
 fn words_of(text: &[u8]) -> usize
     ensures { result ≤ length text.now }
 {
@@ -18,7 +18,7 @@ fn words_of(text: &[u8]) -> usize
     text.len()
 }
 
-// Tells what failed, as the caller names it, a colon and the system's words for the error.
+// Writes what failed, as the caller names it, a colon and the system's words for the error.
 pub fn fail(to: &impl Print, what: &[u8], error: Error) {
     let mut text = [0u8; WORDS];
     let mut room = &mut text[..];

@@ -1,5 +1,5 @@
 // Standard input, read to its end into bytes that the caller lends: there is no heap.
-// The programs `listing`, `repair` and `cases` call it, and the first two tell by it on standard error what failed.
+// The programs `listing`, `repair` and `cases` read by it, and the first two write by `fail` what went wrong.
 #![tactic(auto)]
 
 ghost use Rattle.std.specs.Prelude.{◌<◌, length, take};
@@ -13,7 +13,7 @@ mod failure;
 
 pub use failure::fail;
 
-// The bytes that were read, whether a read failed, and how the last that did not go well failed.
+// How many bytes were read, whether a read failed, and the last error that a read answered.
 #[derive(Drop)]
 pub struct Input {
     pub length: usize,

@@ -1,4 +1,4 @@
--- What is read stands behind what was read before.
+-- What is read comes after what was read before.
 use Rattle.std.proofs.Common.{rules}
 use Rattle.input.proofs.Reading.{read_more, read_none}
 use Rattle.input.proofs.read_all.Goals as goal
