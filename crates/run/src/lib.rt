@@ -2,16 +2,18 @@
 // another, from any ledger.
 #![tactic(auto)]
 
-ghost use Rattle.std.specs.Prelude.{true, ◌≡◌, length, take};
+ghost use Rattle.std.specs.Prelude.{true, ℕ, ◌≡◌, ◌<◌, ◌≤◌, length, take};
 ghost use Rattle.numbers.specs.Eight.{eight};
 ghost use Rattle.record.specs.Fields.{record_bytes, kind_of, climate_of};
 ghost use Rattle.carbon.specs.Carbon.{entry_at};
 ghost use Rattle.ledger.specs.Step.{released_at};
 ghost use Rattle.ledger.specs.Refusal.{sound, refusal_of};
 ghost use Rattle.run.specs.History.{records_of, run_of, outcome_of, out_of};
-ghost use Rattle.run.specs.Outcome.{outcome_numbers};
+ghost use Rattle.run.specs.Outcome.{outcome_numbers, one_answer};
+ghost use Rattle.ledger.specs.Numbers.{answer_numbers};
+ghost use Rattle.refusal.specs.Numbers.{numbered};
 
-use ledger::{Ledger, are_sound};
+use ledger::{Ledger, Taken, are_sound};
 use refusal::Refusal;
 
 // The ledger after the last accepted record, how many records were accepted, the refusal of the next one, if any, and the decay
@@ -22,6 +24,30 @@ pub struct RunEnd {
     pub accepted: u64,
     pub refusal: Option<Refusal>,
     pub work: u64,
+}
+
+impl RunEnd {
+    // Answers what a run of one record from a ledger makes of the record: its releases are what was released since, and x0, figure and
+    // bound are read back from its output record. So the step's code is in a program once.
+    pub fn taken(self, before: Ledger, out: &[u8]) -> Result<Taken, Refusal>
+        requires out_value { numbered self.refusal ≡ 0 → 32 ≤ length out.now }
+        requires released_value { numbered self.refusal ≡ 0 → (t : ℕ) → t < 8 → released_at before t ≤ released_at self.ledger t }
+        ensures { answer_numbers before result ≡ one_answer before (outcome_numbers self) out.now }
+    {
+        if let Some(why) = self.refusal {
+            return Err(why);
+        }
+        let after = self.ledger;
+        let released = after.released;
+        let earlier = before.released;
+        Ok(Taken {
+            ledger: after,
+            releases: carbon::less(released, earlier),
+            x0: numbers::read_u64(out, 8),
+            figure: numbers::read_u64(out, 16),
+            bound: numbers::read_u64(out, 24),
+        })
+    }
 }
 
 // Answers the table entries of a run: those of its first record, which every later accepted record shares.
