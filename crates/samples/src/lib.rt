@@ -79,7 +79,7 @@ fn fractions_of(sample: &[u8]) -> [u16; 8]
     requires { length sample.now ≡ sample_bytes }
     ensures { result ≡ eight (fraction_at sample.now 0) }
 {
-    array::from_fn(|t| numbers::read_u16(sample, 2 * t) as u16)
+    array::from_fn(|t| numbers::read::<2>(sample, 2 * t) as u16)
 }
 
 // Adds fractions to those before them, type by type.
