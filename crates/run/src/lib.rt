@@ -43,9 +43,9 @@ impl RunEnd {
         Ok(Taken {
             ledger: after,
             releases: carbon::less(released, earlier),
-            x0: numbers::read_u64(out, 8),
-            figure: numbers::read_u64(out, 16),
-            bound: numbers::read_u64(out, 24),
+            x0: numbers::read::<8>(out, 8),
+            figure: numbers::read::<8>(out, 16),
+            bound: numbers::read::<8>(out, 24),
         })
     }
 }

@@ -10,4 +10,4 @@ returns-in-Some c = rw (c.in-Some.is, number_not_zero c.in-Some.why) refl
 
 pub returns : goal.returns
 unfolding one_answer
-returns c = rw (c.in_default.is, c.less.ensures, c.read_u64.ensures, c.read_u64-2.ensures, c.read_u64-3.ensures) refl
+returns c = rw (c.in_default.is, c.less.ensures, c.read.ensures.0, c.read-2.ensures.0, c.read-3.ensures.0) refl
