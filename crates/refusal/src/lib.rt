@@ -14,7 +14,7 @@ ghost use Rattle.refusal.specs.Refusal.{continues, faults_of};
 
 pub use lengths::{left_over, reach};
 use record::Factors;
-pub use why::Refusal;
+pub use why::{Refusal, number_or_zero};
 use year_factors::YearFactors;
 
 // Tells whether a record has a kind and a climate.

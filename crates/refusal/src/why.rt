@@ -1,6 +1,6 @@
 // Why a record is refused: 'Refusal numbers' of document 01, with what document 02 adds.
 ghost use Rattle.std.specs.Prelude.{◌≡◌};
-ghost use Rattle.refusal.specs.Numbers.{number_of};
+ghost use Rattle.refusal.specs.Numbers.{number_of, numbered};
 
 use std::error::Error;
 use std::fmt;
@@ -46,6 +46,13 @@ impl Refusal {
             Refusal::DamagedTotals => 32,
         }
     }
+}
+
+// Answers the number of a refusal, 0 if there is none.
+pub fn number_or_zero(refusal: Option<Refusal>) -> u8
+    ensures { result ≡ numbered refusal }
+{
+    refusal.map_or(0, Refusal::number)
 }
 
 impl fmt::Display for Refusal {
