@@ -60,17 +60,14 @@ fn put_right(rt: &HostRuntime, reports: bool, types: &[u8], file: &[u8])
     let repaired = order::repair(types, file, &mut out, &mut report);
     let bytes = file.len();
     let records = bytes / record::BYTES;
-    if repaired.refusal == 0 {
-        if !write_out(rt, reports, &out[..bytes], &report[..records]) {
-            return;
-        }
+    if repaired.is_ok() && !write_out(rt, reports, &out[..bytes], &report[..records]) {
+        return;
     }
-    account::tell_account(
-        &rt.stderr(),
-        records as u64,
-        repaired.changed,
-        repaired.refusal,
-    );
+    let (changed, refusal) = match repaired {
+        Ok(changed) => (changed, 0),
+        Err(why) => (0, why.number()),
+    };
+    account::tell_account(&rt.stderr(), records as u64, changed, refusal);
 }
 
 // Reads the order and the file, and puts the file right; a file that was not read to its end is only told of.
