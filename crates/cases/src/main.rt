@@ -26,7 +26,7 @@ fn read_case(from: &mut impl Read, rt: &impl Print) -> Result<bool, CaseError> {
         _ => return Err(CaseError::Truncated),
     }
     let kind = Kind::try_from(header[0])?;
-    let length = kind.check(numbers::read_u32(&header, 1) as usize)?;
+    let length = kind.check(numbers::read::<4>(&header, 1) as usize)?;
     let mut payload = [0u8; LONGEST];
     fill(from, &mut payload[..length])?;
     kind.put_line(rt, &payload[..length]);

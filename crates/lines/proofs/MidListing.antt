@@ -14,7 +14,7 @@ use Rattle.carbon.specs.Carbon.{most_records}
 use Rattle.ledger.specs.Step.{fresh}
 use Rattle.run.specs.History.{outputs, records_of, Run, run_of, out_of, outcome_of, whole_run}
 use Rattle.stretches.specs.Stretches.{stretch_bytes, stretch_run}
-use Rattle.run.specs.declared.Outcome.{Outcome}
+use Rattle.run.specs.Outcome.{Outcome}
 use Rattle.ledger.specs.declared.book.Ledger.{Ledger}
 use Rattle.run.proofs.History.{no_records, run_ends, Counts, run_most}
 use Rattle.stretches.proofs.Stretches.{rest_run, counts, output_fits, output_size, all_records, stretch_most, goes_on, ends_here}

@@ -5,7 +5,7 @@ use Rattle.record.specs.Fields.{record_bytes}
 use Rattle.carbon.specs.Carbon.{most_records}
 use Rattle.ledger.specs.Take.{total_stock}
 use Rattle.run.specs.History.{Turn, records_of, Run, whole_run}
-use Rattle.ledger.specs.declared.answer.Answer.{Answer}
+use Rattle.ledger.specs.Answer.{Answer}
 use Rattle.line.specs.Line.{line_bytes, accepted_text, refused_text}
 use Rattle.lines.specs.declared.room.NoRoom.{NoRoom}
 use Rattle.lines.specs.Listed.{Listed}

@@ -18,8 +18,8 @@ pub(crate) fn write_listing(file: &[u8], text: &mut [u8]) -> usize
         let ran = run::run(ledger, part, &mut out);
         length = put_lines(text, length, &out, ran.accepted);
         ledger = ran.ledger;
-        if ran.refusal != 0 {
-            return put_refusal(text, length, ran.refusal, ledger.n as u64 + 1);
+        if let Some(why) = ran.refusal {
+            return put_refusal(text, length, why, ledger.n as u64 + 1);
         }
     }
     length

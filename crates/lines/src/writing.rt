@@ -1,11 +1,13 @@
 // Lines, written into a text.
 ghost use Rattle.std.specs.Prelude.{◌≡◌, ◌+◌, ◌*◌, ◌≤◌, length, take};
 ghost use Rattle.record.specs.Fields.{record_bytes};
+ghost use Rattle.refusal.specs.Numbers.{number_of};
 ghost use Rattle.line.specs.Line.{line_bytes, padded, refused_text, Lendable};
 ghost use Rattle.line.specs.Writing.{Writes};
 ghost use Rattle.lines.specs.Outputs.{output_text, output_lines};
 
 use line::Line;
+use refusal::Refusal;
 
 // Answers the line of the output record at a place.
 fn line_at(out: &[u8], at: usize) -> Line
@@ -14,11 +16,11 @@ fn line_at(out: &[u8], at: usize) -> Line
     ensures lendable { Lendable result }
 {
     line::accepted(
-        numbers::read_u16(out, at) as u16,
-        numbers::read_u64(out, at + 8),
-        numbers::read_u64(out, at + 16),
-        numbers::read_u64(out, at + 24),
-        numbers::read_u64(out, at + 32),
+        numbers::read::<2>(out, at) as u16,
+        numbers::read::<8>(out, at + 8),
+        numbers::read::<8>(out, at + 16),
+        numbers::read::<8>(out, at + 24),
+        numbers::read::<8>(out, at + 32),
     )
 }
 
@@ -45,10 +47,10 @@ pub(crate) fn put_lines(text: &mut [u8], at: usize, out: &[u8], count: u64) -> u
 }
 
 // Writes the line of a refusal from a place on, and answers the place after it.
-pub(crate) fn put_refusal(text: &mut [u8], at: usize, refusal: u8, place: u64) -> usize
+pub(crate) fn put_refusal(text: &mut [u8], at: usize, why: Refusal, place: u64) -> usize
     requires { at + line_bytes ≤ length text.old }
-    ensures writes { Writes text.old at (refused_text refusal place) text.new result }
+    ensures writes { Writes text.old at (refused_text (number_of why) place) text.new result }
     ensures upper_bound { result ≤ at + line_bytes }
 {
-    put(text, at, line::refused(refusal, place))
+    put(text, at, line::refused(why.number(), place))
 }

@@ -1,8 +1,15 @@
 -- `MidListing` holds at the head of the loop; each stretch and the end is a law of it.
-use Rattle.std.proofs.Common.{refl, ◌∙◌}
+use Rattle.std.proofs.Common.{◌≡◌, ℕ, refl, ap, ◌∙◌, Option, Some, None}
 use Rattle.std.specs.Slice.Iter.{chunks_rest}
+use Rattle.refusal.specs.Numbers.{numbered}
+use Rattle.refusal.specs.declared.why.Refusal.{Refusal}
+use Rattle.refusal.proofs.Numbers.{number_some}
 use Rattle.lines.proofs.MidListing.{listing_starts, listing_ends, output_stays, lines_fit, stretch_on, refusal_room, stretch_ends}
 use Rattle.lines.proofs.by_stretch.write_listing.Goals as goal
+
+-- a refusal has a number that is not 0
+some : (why : Refusal) {refusal : Option Refusal} → refusal ≡ Some why → numbered refusal ≡ 0 → ⊥
+some why is zero = number_some why (rw is at zero)
 
 pub loop-part-init : goal.loop-part-init
 loop-part-init c =
@@ -23,16 +30,17 @@ put_refusal-requires c =
     let next = c.in-Some.ensures.steps.1 in
     let ran = c.run-ran.ensures in
     let put = c.put_lines-length.ensures in
-    refusal_room h.0 c.in-Some.part.now (chunks_rest c.next.new.self) next.0 h.1 next.1 c.loop-part.out h.2 ran.value ran.out_after put.writes put.upper_bound c.if-ran-ne0.true
+    refusal_room h.0 c.in-Some.part.now (chunks_rest c.next.new.self) next.0 h.1 next.1 c.loop-part.out h.2 ran.value ran.out_after put.writes put.upper_bound (some c.in-Some-2.why c.in-Some-2.is)
 
-pub returns-then-ran-ne0 : goal.returns-then-ran-ne0
-returns-then-ran-ne0 c =
+pub returns-in-Some : goal.returns-in-Some
+returns-in-Some c =
     let h = c.loop-part.invariant in
     let next = c.in-Some.ensures.steps.1 in
     let ran = c.run-ran.ensures in
     let put = c.put_lines-length.ensures in
     let end = c.put_refusal.ensures in
-    stretch_ends h.0 c.in-Some.part.now (chunks_rest c.next.new.self) next.0 h.1 next.1 c.loop-part.out h.2 ran.value ran.out_after put.writes put.upper_bound c.if-ran-ne0.true end.writes end.upper_bound
+    stretch_ends h.0 c.in-Some.part.now (chunks_rest c.next.new.self) next.0 h.1 next.1 c.loop-part.out h.2 ran.value ran.out_after put.writes put.upper_bound
+    (some c.in-Some-2.why c.in-Some-2.is) (rw c.in-Some-2.is end.writes) end.upper_bound
 
 pub loop-part-preserved : goal.loop-part-preserved
 loop-part-preserved c =
@@ -43,7 +51,7 @@ loop-part-preserved c =
     let put = c.put_lines-length.ensures in
     let part = c.in-Some.part.now in
     let rest = chunks_rest c.next.new.self in (
-      stretch_on h.0 part rest next.0 h.1 next.1 c.loop-part.out h.2 ran.value ran.out_after put.writes put.upper_bound c.if-ran-ne0.false,
+      stretch_on h.0 part rest next.0 h.1 next.1 c.loop-part.out h.2 ran.value ran.out_after put.writes put.upper_bound (ap numbered c.in_default.is),
       steps.0 ∙ h.1,
       output_stays h.0 part rest next.0 h.1 next.1 c.loop-part.out h.2 ran.value ran.out_after,
     )

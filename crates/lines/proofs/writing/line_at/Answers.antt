@@ -18,6 +18,6 @@ pub returns : goal.returns
 returns c =
     let s = c.args in
     record {
-      value = says s.out.now s.at c.accepted.ensures.value c.read_u16.ensures.0 c.read_u64.ensures c.read_u64-2.ensures c.read_u64-3.ensures c.read_u64-4.ensures;
+      value = says s.out.now s.at c.accepted.ensures.value c.read.ensures.0 c.read-2.ensures.0 c.read-3.ensures.0 c.read-4.ensures.0 c.read-5.ensures.0;
       lendable = c.accepted.ensures.lendable;
     }
