@@ -1,5 +1,5 @@
 -- `MidListing` holds at the head of the loop; each stretch and the end is a law of it.
-use Rattle.std.proofs.Common.{◌≡◌, ℕ, refl, ap, ◌∙◌, Option, Some, None}
+use Rattle.std.proofs.Common.{◌≡◌, refl, ap, ◌∙◌, Option, Some}
 use Rattle.std.specs.Slice.Iter.{chunks_rest}
 use Rattle.refusal.specs.Numbers.{numbered}
 use Rattle.refusal.specs.declared.why.Refusal.{Refusal}
