@@ -293,7 +293,14 @@ pub fn landfill_listing(records: &[u8], text: &mut [u8], written: &mut u64) -> u
     ensures text_after { text.new ≡ text_of records.now text.old }
     ensures written_after { written.new ≡ (listed_of records.now (length text.old)).length }
 {
-    let listed = lines::listing(records, text);
-    *written = listed.length as u64;
-    listed.refusal
+    match lines::listing(records, text) {
+        Ok(length) => {
+            *written = length as u64;
+            0
+        }
+        Err(why) => {
+            *written = 0;
+            why.number()
+        }
+    }
 }

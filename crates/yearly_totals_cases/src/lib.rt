@@ -67,7 +67,7 @@ pub fn step(rt: &impl Print, payload: &[u8])
     fill(totals, &payload[STEP_HEAD..end]);
     let ledger = ledger_cases::ledger_of(payload);
     let answer = yearly_totals::take_month(ledger, totals, &payload[end..], lent);
-    ledger_cases::put_answer(rt, answer);
+    ledger_cases::put_answer(rt, ledger, answer);
     put_lent(rt, lent, totals);
 }
 
