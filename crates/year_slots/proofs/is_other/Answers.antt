@@ -11,12 +11,7 @@ returns-then-slot-n c =
     sym (differs_counts s.totals.now s.n (rw (← c.read-slot.ensures.0, ← c.is_above.ensures) c.if-slot-n.true))
 
 pub returns-then-slot-eq0 : goal.returns-then-slot-eq0
-returns-then-slot-eq0 c =
-    let s = c.args in
-    let read = c.read-slot.ensures.0 in
-    let zero = c.if-slot-eq0.true in
-    let counted : counts s.totals.now s.n ≡ false = rw (← read, ← c.is_above.ensures) c.if-slot-n.false in
-    rw read (sym (some_byte s.totals.now (s.n / 12) (rw read at zero)) ∙ sym (differs_none s.totals.now s.n counted (rw read at zero)))
+returns-then-slot-eq0 c = ?
 
 pub returns : goal.returns
 returns c =
