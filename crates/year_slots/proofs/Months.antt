@@ -28,7 +28,7 @@ module _ {totals₀ : List ℕ} {n : ℕ} {out : List ℕ} {count : ℕ} where
   months_start size fit =
       let same : n + 0 ≡ n = omega arith in
       let all : count - 0 ≡ count = omega arith in
-      rw (same, all) (record { few = size.0; room = size.1; fit = fit; so_far = refl })
+      rw (same, all) (record { few = size.0; room = omega (arith, size.1); fit = fit; so_far = refl })
 
   pub months_on : {totals : List ℕ} {months at left : ℕ} → MidMonths totals₀ n out count totals months at left → (left' : ℕ) → left ≡ suc left'
       → MonthFits (slot_at totals (slot_of (months + 1))) (drop at out) × MidMonths totals₀ n out count (month_added totals months (drop at out)) (months + 1) (at + record_bytes) left'
