@@ -21,9 +21,9 @@ pub fn write_answer(out: &mut [u8], answer: Answer)
     }
     let releases = answer.releases;
     numbers::write_eight(out, 0, releases);
-    numbers::write_u64(out, 64, answer.x0);
-    numbers::write_u64(out, 72, answer.figure);
-    numbers::write_u64(out, 80, answer.bound);
+    numbers::write::<8>(out, 64, answer.x0);
+    numbers::write::<8>(out, 72, answer.figure);
+    numbers::write::<8>(out, 80, answer.bound);
 }
 
 // Answers the room for the output record: none where the answer has no room.
@@ -53,9 +53,9 @@ fn take_one(ledger: Ledger, bytes: &[u8], out: &mut [u8]) -> Answer
         ledger: after,
         refusal: 0,
         releases: carbon::less(released, before),
-        x0: numbers::read_u64(out, 8),
-        figure: numbers::read_u64(out, 16),
-        bound: numbers::read_u64(out, 24),
+        x0: numbers::read::<8>(out, 8),
+        figure: numbers::read::<8>(out, 16),
+        bound: numbers::read::<8>(out, 24),
     }
 }
 

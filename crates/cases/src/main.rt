@@ -117,7 +117,7 @@ fn read_case(from: &mut impl Read, rt: &impl Print) -> u8 {
     if got < 5 {
         return TRUNCATED;
     }
-    one_case(from, rt, header[0], numbers::read_u32(&header, 1) as usize)
+    one_case(from, rt, header[0], numbers::read::<4>(&header, 1) as usize)
 }
 
 // Prints why a case cannot be read; the end of the input prints nothing.

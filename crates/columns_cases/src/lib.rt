@@ -22,7 +22,7 @@ fn places(payload: &[u8], column: usize) -> usize
     requires { (18 ≤ length payload.now) × (column < 9) }
     ensures { result ≤ 1300 }
 {
-    let asked = numbers::read_u16(payload, 2 * column) as usize;
+    let asked = numbers::read::<2>(payload, 2 * column) as usize;
     if asked < PLACES { asked } else { PLACES }
 }
 

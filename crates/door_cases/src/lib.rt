@@ -27,7 +27,7 @@ fn read_cell(payload: &[u8]) -> Cell
     if payload[0] == 0 {
         return Cell::Empty;
     }
-    Cell::Number(float_of(numbers::read_u64(payload, 1)))
+    Cell::Number(float_of(numbers::read::<8>(payload, 1)))
 }
 
 // Prints the answer to a cell.
@@ -65,7 +65,7 @@ pub fn point(rt: &impl Print, payload: &[u8])
     }
     charted(
         rt,
-        numbers::read_u64(payload, 0),
-        numbers::read_u64(payload, 8),
+        numbers::read::<8>(payload, 0),
+        numbers::read::<8>(payload, 8),
     );
 }

@@ -22,12 +22,12 @@ pub fn read(bytes: &[u8]) -> Ledger
         return none;
     }
     Ledger {
-        n: numbers::read_u16(bytes, 0) as u16,
+        n: numbers::read::<2>(bytes, 0) as u16,
         kind: bytes[2],
         climate: bytes[3],
         year: YearFactors {
             factor: bytes[4],
-            captured: numbers::read_u16(bytes, 6) as u16,
+            captured: numbers::read::<2>(bytes, 6) as u16,
             class: bytes[5],
         },
         brought: numbers::read_eight(bytes, 8),
@@ -41,12 +41,12 @@ fn write_front(out: &mut [u8], ledger: Ledger)
     requires { 8 ≤ length out.old }
     ensures { out.new ≡ sets out.old 0 (front_of ledger) }
 {
-    numbers::write_u16(out, 0, ledger.n as u64);
-    numbers::write_u8(out, 2, ledger.kind);
-    numbers::write_u8(out, 3, ledger.climate);
-    numbers::write_u8(out, 4, ledger.year.factor);
-    numbers::write_u8(out, 5, ledger.year.class);
-    numbers::write_u16(out, 6, ledger.year.captured as u64);
+    numbers::write::<2>(out, 0, ledger.n as u64);
+    out[2] = ledger.kind;
+    out[3] = ledger.climate;
+    out[4] = ledger.year.factor;
+    out[5] = ledger.year.class;
+    numbers::write::<2>(out, 6, ledger.year.captured as u64);
 }
 
 // Writes the image of a ledger. A buffer that is not 200 bytes keeps its values.

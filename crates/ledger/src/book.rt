@@ -7,10 +7,12 @@ ghost use Rattle.record.specs.Fields.{record_bytes, kind_of, climate_of};
 ghost use Rattle.carbon.specs.Carbon.{entry_at};
 ghost use Rattle.ledger.specs.Step.{fresh, decayed_at, period_of_all};
 ghost use Rattle.ledger.specs.Refusal.{sound, refusal_of};
-ghost use Rattle.ledger.specs.Take.{accepted_of, refused_of, entered_of, output_record, take_of, written_of, totals_of};
+ghost use Rattle.ledger.specs.Take.{accepted_of, entered_of, output_record, take_of, written_of, totals_of};
+ghost use Rattle.ledger.specs.Numbers.{answer_numbers, totals_numbers};
 
-use crate::answer::{Answer, Entered, Totals};
+use crate::answer::{CarbonTotals, Entered, Taken};
 use crate::period::{Decayed, Period, decay_work};
+use refusal::Refusal;
 use year_factors::YearFactors;
 
 // One site's ledger: the number n of accepted records, their kind and climate, what a monthly one remembers of its year, and for each
@@ -177,24 +179,10 @@ impl Ledger {
         }
     }
 
-    // Answers that a record is refused by a number; the ledger comes back as it is.
-    pub fn refused(self, refusal: u8) -> Answer
-        ensures { result ≡ refused_of self refusal }
-    {
-        Answer {
-            ledger: self,
-            refusal,
-            releases: [0; 8],
-            x0: 0,
-            figure: 0,
-            bound: 0,
-        }
-    }
-
     // Takes one record: answers the ledger after it, its releases, figure and bound, and writes its output record at the start
-    // of the output; or refuses it by number, and leaves the ledger and the output as they are.
-    pub fn take(self, bytes: &[u8], out: &mut [u8]) -> Answer
-        ensures value { result ≡ take_of self bytes.now (length out.old) }
+    // of the output; or why it refuses the record, and leaves the output as it is.
+    pub fn take(self, bytes: &[u8], out: &mut [u8]) -> Result<Taken, Refusal>
+        ensures value { answer_numbers self result ≡ take_of self bytes.now (length out.old) }
         ensures out_after { out.new ≡ written_of self bytes.now out.old }
     {
         let good = self.is_sound();
@@ -208,45 +196,37 @@ impl Ledger {
             bytes,
             out.len(),
         );
-        let refusal = refusal::with_masses(early, bytes);
-        if refusal != 0 {
-            return self.refused(refusal);
+        if let Some(why) = refusal::with_masses(early, bytes) {
+            return Err(why);
         }
         let entries = carbon::entries(record::kind(bytes), record::climate(bytes));
         let entered = self.enter(entries, bytes, out);
         let after = entered.ledger;
         let released = after.released;
         let before = self.released;
-        Answer {
+        Ok(Taken {
             ledger: after,
-            refusal: 0,
             releases: carbon::less(released, before),
             x0: entered.says.x0,
             figure: entered.says.figure,
             bound: entered.says.bound,
-        }
+        })
     }
 
-    // Answers the carbon left, brought in and released so far over all types; an unsound ledger is refused with 3.
-    pub fn totals(self) -> Totals
-        ensures { result ≡ totals_of self }
+    // Answers the carbon left, brought in and released so far over all types, or refuses an unsound ledger.
+    pub fn totals(self) -> Result<CarbonTotals, Refusal>
+        ensures { totals_numbers result ≡ totals_of self }
     {
         if !self.is_sound() {
-            return Totals {
-                refusal: 3,
-                stock: 0,
-                brought: 0,
-                released: 0,
-            };
+            return Err(Refusal::UnsoundLedger);
         }
         let stock = self.stock;
         let brought = self.brought;
         let released = self.released;
-        Totals {
-            refusal: 0,
+        Ok(CarbonTotals {
             stock: carbon::total(stock),
             brought: carbon::total(brought),
             released: carbon::total(released),
-        }
+        })
     }
 }

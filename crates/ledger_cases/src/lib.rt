@@ -22,7 +22,7 @@ pub fn decay(rt: &impl Print, payload: &[u8])
     if payload.len() < 3 {
         return;
     }
-    let entry = decay::entry(payload[0], numbers::read_u16(payload, 1) as u16);
+    let entry = decay::entry(payload[0], numbers::read::<2>(payload, 1) as u16);
     print::number(rt, entry as u64, b'\n');
 }
 
@@ -77,7 +77,7 @@ pub fn step(rt: &impl Print, payload: &[u8])
         return;
     }
     let mut out = print::buffer();
-    let room = numbers::read_u16(payload, image::BYTES) as usize;
+    let room = numbers::read::<2>(payload, image::BYTES) as usize;
     let lent = &mut out[0..room];
     let answer = ledger_of(payload).take(&payload[STEP_HEAD..], lent);
     put_answer(rt, answer);
@@ -101,7 +101,7 @@ pub fn run(rt: &impl Print, payload: &[u8])
         return;
     }
     let mut out = print::buffer();
-    let room = print::room_of(numbers::read_u32(payload, image::BYTES));
+    let room = print::room_of(numbers::read::<4>(payload, image::BYTES));
     let lent = &mut out[0..room];
     let outcome = run::run(ledger_of(payload), &payload[RUN_HEAD..], lent);
     put_outcome(rt, outcome);

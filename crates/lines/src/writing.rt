@@ -15,11 +15,11 @@ fn line_at(out: &[u8], at: usize) -> Line
     ensures lendable { Lendable result }
 {
     line::accepted(
-        numbers::read_u16(out, at) as u16,
-        numbers::read_u64(out, at + 8),
-        numbers::read_u64(out, at + 16),
-        numbers::read_u64(out, at + 24),
-        numbers::read_u64(out, at + 32),
+        numbers::read::<2>(out, at) as u16,
+        numbers::read::<8>(out, at + 8),
+        numbers::read::<8>(out, at + 16),
+        numbers::read::<8>(out, at + 24),
+        numbers::read::<8>(out, at + 32),
     )
 }
 

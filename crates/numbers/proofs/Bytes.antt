@@ -1,12 +1,14 @@
 -- Laws of numbers as bytes, over the count of bytes: a wide read is two narrow ones, and what was written is read back.
 use mathlib.Core.Path.{◌≡◌, refl, sym, ap, ◌∙◌}
-use mathlib.Core.List.{List, [], ◌∷◌, ◌++◌}
+use mathlib.Core.List.{List, [], ◌∷◌, ◌++◌, append_assoc}
 use Prim.Native.Nat.{ℕ, zero, suc, ◌+◌, ◌-◌, ◌*◌, ◌/◌, ◌%◌, ◌^◌, ◌≤◌, ◌<◌}
-use native.Mathlib.Nat.{zero-add, add-zero, suc-add, pow-zero, pow-suc}
+use native.Mathlib.Nat.{zero-add, add-zero, suc-add, pow-zero, pow-suc, div-div-eq-div-mul}
 use native.Mathlib.Numerals.{add-one}
 use native.Mathlib.Omega.{arith}
-use lib.ListN.{length, take, drop, get_or, set, length-set}
-use lib.Seq.{sets, sets-eq, get_or-set_same, get_or-set_other, get_or-take, get_or-drop, drop-cons}
+use lib.ListN.{length, take, drop, get_or, set, replicate, length-set, length-drop, get_or-append}
+use lib.Seq.{sets, sets-eq, get_or-set_same, get_or-set_other, get_or-take, get_or-drop, drop-cons, drop-drop, get_or-append_right, length-take-le}
+use borrow.Rule.Slice.PartMut.{put_mid}
+use Rattle.std.specs.Int.{from_le_bytes, to_le_bytes, w64}
 use Rattle.numbers.specs.Bytes.{number_at, bytes_of}
 
 pub number_join : (j k : ℕ) (s : List ℕ) (at : ℕ) → number_at (j + k) s at ≡ number_at j s at + 256 ^ j * number_at k s (at + j)
@@ -103,3 +105,59 @@ bytes_at (suc k) at bytes room small =
     let low : (get_or bytes at 0 + 256 * rest) % 256 ≡ get_or bytes at 0 = omega (arith, small at) in
     let high : (get_or bytes at 0 + 256 * rest) / 256 ≡ rest = omega (arith, small at) in
     rw (low, high, drop-cons bytes at 0 (omega arith), ← add-one at) (ap (λ (bs : List ℕ). get_or bytes at 0 ∷ bs) (bytes_at k (at + 1) bytes (omega arith) small))
+
+-- A list with a part of it overwritten has the part's numbers stored from there on.
+pub part_written : (at k : ℕ) (out xs : List ℕ) → length xs ≡ k → at + k ≤ length out → put_mid at k out xs ≡ sets out at xs
+part_written at k out xs long room =
+    let fits : at + length xs ≤ length out = omega arith in
+    let rest : drop k (drop at out) ≡ drop (at + length xs) out = rw long (drop-drop k at out) in
+    ap (λ (l : List ℕ). take at out ++ (xs ++ l)) rest ∙ (sym (append_assoc (take at out) xs (drop (at + length xs) out)) ∙ sym (sets-eq xs out at fits))
+
+-- std's eight bytes of a number are those of `bytes_of`, and the first of more bytes are those of the number's low part.
+pub eight_bytes : (x : ℕ) → to_le_bytes w64 x ≡ bytes_of 8 x
+eight_bytes x = simp div-div-eq-div-mul
+
+low_bytes : (k more x : ℕ) → take k (bytes_of (k + more) x) ≡ bytes_of k x
+low_bytes zero more x = refl
+low_bytes (suc k) more x = rw suc-add (ap (λ (bs : List ℕ). x % 256 ∷ bs) (low_bytes k more (x / 256)))
+
+pub few_bytes : (k x : ℕ) {wide : List ℕ} → k ≤ 8 → wide ≡ to_le_bytes w64 x → take k wide ≡ bytes_of k x
+few_bytes k x few e =
+    let parts : 8 ≡ k + (8 - k) = omega arith in
+    rw e (ap (take k) (eight_bytes x ∙ ap (λ (n : ℕ). bytes_of n x) parts) ∙ low_bytes k (8 - k) x)
+
+-- A number of small bytes is small, and one of zeros is 0.
+pub number_small : (k at : ℕ) (bytes : List ℕ) → ((i : ℕ) → get_or bytes i 0 < 256) → number_at k bytes at < 256 ^ k
+number_small zero at bytes small = rw pow-zero (omega arith)
+number_small (suc k) at bytes small = rw pow-suc (omega (arith, small at, number_small k (at + 1) bytes small))
+
+number_none : (k at : ℕ) (bytes : List ℕ) → ((i : ℕ) → at ≤ i → get_or bytes i 0 ≡ 0) → number_at k bytes at ≡ 0
+number_none zero at bytes none = refl
+number_none (suc k) at bytes none = omega (arith, none at (omega arith), number_none k (at + 1) bytes (λ i l. none i (omega arith)))
+
+zero_at : (n i : ℕ) → ◌≡◌ {A = ℕ} (get_or (replicate n 0) i 0) 0
+zero_at zero i = refl
+zero_at (suc n) zero = refl
+zero_at (suc n) (suc i) = zero_at n i
+
+-- Eight bytes, the first k of them copied from a place and the others 0, make the number of those k.
+pub number_widened : (k at : ℕ) (bytes : List ℕ) {wide : List ℕ} → k ≤ 8 → at + k ≤ length bytes
+    → wide ≡ take k (drop at bytes) ++ drop k (replicate 8 0) → from_le_bytes w64 wide ≡ number_at k bytes at
+number_widened k at bytes {wide} few room e =
+    let parts : k + (8 - k) ≡ 8 = omega arith in
+    let long : length (take k (drop at bytes)) ≡ k = length-take-le k (drop at bytes) (simp length-drop (omega arith)) in
+    let copied : number_at k wide 0 ≡ number_at k bytes at
+    = number_same k wide bytes 0 at
+    (λ i l.
+    let same : 0 + i ≡ i = zero-add i in
+    rw (same, e) (get_or-append (take k (drop at bytes)) (drop k (replicate 8 0)) 0 i (omega (arith, long)) ∙ (get_or-take k (drop at bytes) i 0 l ∙ get_or-drop at bytes i 0))) in
+    let others : number_at (8 - k) wide (0 + k) ≡ 0
+    = number_none (8 - k) (0 + k) wide
+    (λ i l.
+    rw e
+    (get_or-append_right (take k (drop at bytes)) (drop k (replicate 8 0)) i 0 (omega (arith, long))
+    ∙ (get_or-drop k (replicate 8 0) (i - length (take k (drop at bytes))) 0 ∙ zero_at 8 (k + (i - length (take k (drop at bytes))))))) in
+    let all : from_le_bytes w64 wide ≡ number_at 8 wide 0 = omega arith in
+    let joined = rw parts at (number_join k (8 - k) wide 0) in
+    let none : 256 ^ k * number_at (8 - k) wide (0 + k) ≡ 0 = rw others (omega arith) in
+    omega (arith, all, joined, none, copied)

@@ -9,7 +9,7 @@ mod row;
 mod test;
 
 pub use copy::write_bytes;
-pub use le::{read_u16, read_u32, read_u64, write_u8, write_u16, write_u32, write_u64};
+pub use le::{read, write};
 pub use ratio::mul_div;
 pub use row::{read_eight, write_eight};
 pub use test::is_between;

@@ -11,11 +11,7 @@ pub fn read_eight(bytes: &[u8], at: usize) -> [u64; 8]
     requires { at + 64 ≤ length bytes.now }
     ensures { result ≡ eight (λ t. number_at 8 bytes.now (at + 8 * t)) }
 {
-    let mut row = [0u64; 8];
-    for t in 0..8 {
-        row[t] = le::read_u64(bytes, at + 8 * t);
-    }
-    row
+    std::array::from_fn(|t| le::read::<8>(bytes, at + 8 * t))
 }
 
 // Writes eight numbers from a place on.
@@ -23,7 +19,7 @@ pub fn write_eight(out: &mut [u8], at: usize, row: [u64; 8])
     requires { at + 64 ≤ length out.old }
     ensures { out.new ≡ sets out.old at (row_of (λ t. get_or row t 0) 8) }
 {
-    for t in 0..8 {
-        le::write_u64(out, at + 8 * t, row[t]);
+    for (t, x) in row.iter().enumerate() {
+        le::write::<8>(out, at + 8 * t, *x);
     }
 }

@@ -16,7 +16,7 @@ fn mass_at(file: &[u8], at: usize, place: usize) -> u64
     requires { (at + record_bytes ≤ length file.now) × (place < 8) }
     ensures { result ≡ mass_of (record_from file.now at) place }
 {
-    numbers::read_u32(file, at + HEAD + MASS * place)
+    numbers::read::<4>(file, at + HEAD + MASS * place)
 }
 
 // Writes the eight masses of the record that starts somewhere in a file, each from its place there to its type's place in the output,
@@ -29,7 +29,7 @@ fn write_masses(file: &[u8], at: usize, places: [usize; 8], out: &mut [u8]) -> u
     let mut bits = 0u8;
     for t in 0..8usize {
         let mass = mass_at(file, at, places[t]);
-        numbers::write_u32(out, at + HEAD + MASS * t, mass);
+        numbers::write::<4>(out, at + HEAD + MASS * t, mass);
         if mass != mass_at(file, at, t) {
             bits = bits | 1 << t;
         }
@@ -43,7 +43,7 @@ pub(crate) fn write_record(file: &[u8], at: usize, places: [usize; 8], out: &mut
     ensures value { result ≡ eight_bits (is_other (λ t. get_or places t 0) (record_from file.now at)) }
     ensures out_after { out.new ≡ sets out.old at (rewritten (λ t. get_or places t 0) (record_from file.now at)) }
 {
-    numbers::write_u64(out, at, numbers::read_u64(file, at));
-    numbers::write_u64(out, at + 8, numbers::read_u64(file, at + 8));
+    numbers::write::<8>(out, at, numbers::read::<8>(file, at));
+    numbers::write::<8>(out, at + 8, numbers::read::<8>(file, at + 8));
     write_masses(file, at, places, out)
 }

@@ -44,8 +44,8 @@ pub fn repair(rt: &impl Print, payload: &[u8])
     }
     let mut out = print::buffer();
     let mut report = print::buffer();
-    let room = print::room_of(numbers::read_u32(payload, 0));
-    let report_room = print::room_of(numbers::read_u32(payload, 4));
+    let room = print::room_of(numbers::read::<4>(payload, 0));
+    let report_room = print::room_of(numbers::read::<4>(payload, 4));
     let end = order_end(payload);
     let lent = &mut out[0..room];
     let noted = &mut report[0..report_room];

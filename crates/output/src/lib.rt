@@ -24,10 +24,10 @@ fn write_head(out: &mut [u8], period: u16, kind: u8, climate: u8)
     requires { record_bytes ≤ length out.old }
     ensures { out.new ≡ sets out.old 0 (output_head period kind climate) }
 {
-    numbers::write_u16(out, 0, period as u64);
-    numbers::write_u8(out, 2, kind);
-    numbers::write_u8(out, 3, climate);
-    numbers::write_u32(out, 4, 0);
+    numbers::write::<2>(out, 0, period as u64);
+    out[2] = kind;
+    out[3] = climate;
+    numbers::write::<4>(out, 4, 0);
 }
 
 // Writes the five numbers after them.
@@ -35,11 +35,11 @@ fn write_five(out: &mut [u8], x0: u64, figure: u64, bound: u64, stock: u64, brou
     requires { record_bytes ≤ length out.old }
     ensures { out.new ≡ sets out.old 8 (five_of x0 figure bound stock brought) }
 {
-    numbers::write_u64(out, 8, x0);
-    numbers::write_u64(out, 16, figure);
-    numbers::write_u64(out, 24, bound);
-    numbers::write_u64(out, 32, stock);
-    numbers::write_u64(out, 40, brought);
+    numbers::write::<8>(out, 8, x0);
+    numbers::write::<8>(out, 16, figure);
+    numbers::write::<8>(out, 24, bound);
+    numbers::write::<8>(out, 32, stock);
+    numbers::write::<8>(out, 40, brought);
 }
 
 // Writes an output record at the start of a buffer. A buffer under 48 bytes keeps its values.

@@ -64,7 +64,7 @@ fn add_sample(before: Added, samples: &[u8], n: usize) -> Added
     let mut fractions = [0u32; 8];
     let mut sum = 0u32;
     for t in 0..8 {
-        let fraction = numbers::read_u16(samples, BYTES * n + 2 * t) as u32;
+        let fraction = numbers::read::<2>(samples, BYTES * n + 2 * t) as u32;
         fractions[t] = before.fractions[t] + fraction;
         sum += fraction;
     }

@@ -23,6 +23,6 @@ pub fn masses(rt: &impl Print, payload: &[u8])
     if payload.len() < 9 {
         return;
     }
-    let total = numbers::read_u64(payload, 1);
+    let total = numbers::read::<8>(payload, 1);
     put_sorted(rt, samples::masses(payload[0], total, &payload[9..]));
 }

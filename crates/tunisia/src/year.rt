@@ -73,7 +73,7 @@ pub(crate) fn walk_over(
     let mut at: usize = 0;
     let mut left = count;
     while left > 0 {
-        let x0 = numbers::read_u64(out, at + 8);
+        let x0 = numbers::read::<8>(out, at + 8);
         let next = walk_on(walked, &file[at..at + record::BYTES], x0, first, last);
         walked = next;
         at += record::BYTES;

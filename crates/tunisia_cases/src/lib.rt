@@ -31,7 +31,7 @@ fn grams_in(payload: &[u8]) -> usize
     ensures { 22 + 8 * result ≤ length payload.now }
 {
     let there = (payload.len() - HEAD) / 8;
-    let asked = numbers::read_u16(payload, 20) as usize;
+    let asked = numbers::read::<2>(payload, 20) as usize;
     if asked < there { asked } else { there }
 }
 
@@ -42,7 +42,7 @@ fn gram(payload: &[u8], grams: usize, number: usize) -> u64
     if grams == 0 {
         return 0;
     }
-    numbers::read_u64(payload, HEAD + 8 * (number % grams))
+    numbers::read::<8>(payload, HEAD + 8 * (number % grams))
 }
 
 // Answers entries that take the grams of a payload in turn, from a number on.
@@ -90,16 +90,16 @@ pub fn reduction(rt: &impl Print, payload: &[u8])
         return;
     }
     let grams = grams_in(payload);
-    let electricity_count = entries_of(numbers::read_u16(payload, 16));
+    let electricity_count = entries_of(numbers::read::<2>(payload, 16));
     let electricity = entries_from(payload, grams, 0);
-    let fuel_count = entries_of(numbers::read_u16(payload, 18));
+    let fuel_count = entries_of(numbers::read::<2>(payload, 18));
     let fuel = entries_from(payload, grams, electricity_count);
     put_reduction(
         rt,
         tunisia::reduction_over(
             &payload[HEAD + 8 * grams..],
-            numbers::read_u64(payload, 0),
-            numbers::read_u64(payload, 8),
+            numbers::read::<8>(payload, 0),
+            numbers::read::<8>(payload, 8),
             &electricity[0..electricity_count],
             &fuel[0..fuel_count],
         ),

@@ -40,11 +40,11 @@ pub fn read(totals: &Totals, k: usize) -> Slot
 {
     let at = SLOT * k;
     Slot {
-        year: numbers::read_u32(totals, at),
-        months: numbers::read_u32(totals, at + 4),
-        x0: numbers::read_u64(totals, at + 8),
-        figure: numbers::read_u64(totals, at + 16),
-        bound: numbers::read_u64(totals, at + 24),
+        year: numbers::read::<4>(totals, at),
+        months: numbers::read::<4>(totals, at + 4),
+        x0: numbers::read::<8>(totals, at + 8),
+        figure: numbers::read::<8>(totals, at + 16),
+        bound: numbers::read::<8>(totals, at + 24),
     }
 }
 
@@ -54,11 +54,11 @@ fn write(totals: &mut Totals, k: usize, slot: Slot)
     ensures { totals.new ≡ sets totals.old (slot_size * k) (slot_row slot) }
 {
     let at = SLOT * k;
-    numbers::write_u32(totals, at, slot.year);
-    numbers::write_u32(totals, at + 4, slot.months);
-    numbers::write_u64(totals, at + 8, slot.x0);
-    numbers::write_u64(totals, at + 16, slot.figure);
-    numbers::write_u64(totals, at + 24, slot.bound);
+    numbers::write::<4>(totals, at, slot.year);
+    numbers::write::<4>(totals, at + 4, slot.months);
+    numbers::write::<8>(totals, at + 8, slot.x0);
+    numbers::write::<8>(totals, at + 16, slot.figure);
+    numbers::write::<8>(totals, at + 24, slot.bound);
 }
 
 // Tells whether a sum of a slot is above the limit.
@@ -96,9 +96,9 @@ fn add(totals: &mut Totals, n: u16, out: &[u8])
     let more = Slot {
         year: k as u64 + 1,
         months: slot.months + 1,
-        x0: slot.x0 + numbers::read_u64(out, 8),
-        figure: slot.figure + numbers::read_u64(out, 16),
-        bound: slot.bound + numbers::read_u64(out, 24),
+        x0: slot.x0 + numbers::read::<8>(out, 8),
+        figure: slot.figure + numbers::read::<8>(out, 16),
+        bound: slot.bound + numbers::read::<8>(out, 24),
     };
     write(totals, k as usize, more);
 }

@@ -73,8 +73,8 @@ pub fn take_month(ledger: Ledger, totals: &mut [u8], bytes: &[u8], out: &mut [u8
         ledger: after,
         refusal: 0,
         releases: carbon::less(released, before),
-        x0: numbers::read_u64(out, 8),
-        figure: numbers::read_u64(out, 16),
-        bound: numbers::read_u64(out, 24),
+        x0: numbers::read::<8>(out, 8),
+        figure: numbers::read::<8>(out, 16),
+        bound: numbers::read::<8>(out, 24),
     }
 }

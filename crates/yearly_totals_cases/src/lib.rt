@@ -15,7 +15,7 @@ fn totals_end(payload: &[u8], head: usize) -> usize
     requires { (2 ≤ head) × (head ≤ length payload.now) }
     ensures { (head ≤ result) × (result ≤ length payload.now) }
 {
-    let given = numbers::read_u16(payload, head - 2) as usize;
+    let given = numbers::read::<2>(payload, head - 2) as usize;
     if given < payload.len() - head {
         head + given
     } else {
@@ -59,8 +59,8 @@ pub fn step(rt: &impl Print, payload: &[u8])
     }
     let mut out = print::buffer();
     let mut buffer = print::buffer();
-    let room = numbers::read_u16(payload, image::BYTES) as usize;
-    let size = numbers::read_u16(payload, image::BYTES + 2) as usize;
+    let room = numbers::read::<2>(payload, image::BYTES) as usize;
+    let size = numbers::read::<2>(payload, image::BYTES + 2) as usize;
     let end = totals_end(payload, STEP_HEAD);
     let lent = &mut out[0..room];
     let totals = &mut buffer[0..size];
@@ -80,8 +80,8 @@ pub fn run(rt: &impl Print, payload: &[u8])
     }
     let mut out = print::buffer();
     let mut buffer = print::buffer();
-    let room = print::room_of(numbers::read_u32(payload, image::BYTES));
-    let size = numbers::read_u16(payload, image::BYTES + 4) as usize;
+    let room = print::room_of(numbers::read::<4>(payload, image::BYTES));
+    let size = numbers::read::<2>(payload, image::BYTES + 4) as usize;
     let end = totals_end(payload, RUN_HEAD);
     let lent = &mut out[0..room];
     let totals = &mut buffer[0..size];

@@ -59,14 +59,14 @@ less-requires c = λ t place.
     rw (ledger-is a.ledger a.bytes.now a.out.now c.if-bytes-ne-BYTES.false c.run-end.result c.run-end.ensures.value c.if-end-ne0.false)
     (omega (arith, released_after a.ledger a.bytes.now t place))
 
-pub read_u64-requires : goal.read_u64-requires
-read_u64-requires c = omega (arith, room-left c.args.ledger c.args.bytes.now c.args.out.now c.if-bytes-ne-BYTES.false c.run-end.result c.run-end.ensures.value c.if-end-ne0.false)
+pub read-requires-clause-room : goal.read-requires-clause-room
+read-requires-clause-room c = omega (arith, room-left c.args.ledger c.args.bytes.now c.args.out.now c.if-bytes-ne-BYTES.false c.run-end.result c.run-end.ensures.value c.if-end-ne0.false)
 
-pub read_u64-requires-2 : goal.read_u64-requires-2
-read_u64-requires-2 c = omega (arith, room-left c.args.ledger c.args.bytes.now c.args.out.now c.if-bytes-ne-BYTES.false c.run-end.result c.run-end.ensures.value c.if-end-ne0.false)
+pub read-requires-2-clause-room : goal.read-requires-2-clause-room
+read-requires-2-clause-room c = omega (arith, room-left c.args.ledger c.args.bytes.now c.args.out.now c.if-bytes-ne-BYTES.false c.run-end.result c.run-end.ensures.value c.if-end-ne0.false)
 
-pub read_u64-requires-3 : goal.read_u64-requires-3
-read_u64-requires-3 c = omega (arith, room-left c.args.ledger c.args.bytes.now c.args.out.now c.if-bytes-ne-BYTES.false c.run-end.result c.run-end.ensures.value c.if-end-ne0.false)
+pub read-requires-3-clause-room : goal.read-requires-3-clause-room
+read-requires-3-clause-room c = omega (arith, room-left c.args.ledger c.args.bytes.now c.args.out.now c.if-bytes-ne-BYTES.false c.run-end.result c.run-end.ensures.value c.if-end-ne0.false)
 
 pub returns : goal.returns
 unfolding accepted_of output_fields
@@ -79,6 +79,6 @@ returns c =
     record {
       value =
           rw (taken a.ledger a.bytes.now (length a.out.now) (none a.ledger a.bytes.now a.out.now size end c.run-end.ensures.value ok), c.less.ensures, ledger-is a.ledger a.bytes.now a.out.now size end c.run-end.ensures.value ok, released_between a.ledger a.bytes.now)
-          (rw (c.read_u64-3.ensures, c.read_u64-2.ensures, c.read_u64.ensures, says.x0, says.figure, says.bound));
+          (rw (c.read-3.ensures.0, c.read-2.ensures.0, c.read.ensures.0, says.x0, says.figure, says.bound));
       out_after = c.run-end.ensures.out_after ∙ one_written a.ledger a.bytes.now a.out.now size;
     }

@@ -21,7 +21,7 @@ all-written a out first p q s room =
 
 pub returns : goal.returns
 returns c =
-    all-written c.args.answer c.args.out.now c.write_eight.ensures c.write_u64.ensures c.write_u64-2.ensures c.write_u64-3.ensures
+    all-written c.args.answer c.args.out.now c.write_eight.ensures c.write.ensures c.write-2.ensures c.write-3.ensures
     c.if-out-lt-ANSWER_BYTES.false
 
 pub returns-then-out-lt-ANSWER_BYTES : goal.returns-then-out-lt-ANSWER_BYTES

@@ -10,4 +10,4 @@ returns-then-bytes-ne-BYTES c = simp (ne_eqb _ _ c.if-bytes-ne-BYTES.true, c.fre
 
 pub returns : goal.returns
 unfolding ledger_of said_by
-returns c = simp (eq-eqb _ _ c.if-bytes-ne-BYTES.false, c.read_u16.ensures.0, c.read_u16-2.ensures.0, c.read_eight.ensures, c.read_eight-2.ensures, c.read_eight-3.ensures)
+returns c = simp (eq-eqb _ _ c.if-bytes-ne-BYTES.false, c.read.ensures.0, c.read-2.ensures.0, c.read_eight.ensures, c.read_eight-2.ensures, c.read_eight-3.ensures)

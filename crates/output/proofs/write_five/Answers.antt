@@ -20,5 +20,5 @@ in_turn_lem out x0 figure bound stock brought h i j k l = l ∙ rw (k, j, i, h)
 pub returns : goal.returns
 returns c =
     let a = c.args in
-    in_turn_lem a.out.now a.x0 a.figure a.bound a.stock a.brought c.write_u64.ensures c.write_u64-2.ensures c.write_u64-3.ensures c.write_u64-4.ensures
-    c.write_u64-5.ensures
+    in_turn_lem a.out.now a.x0 a.figure a.bound a.stock a.brought c.write.ensures c.write-2.ensures c.write-3.ensures c.write-4.ensures
+    c.write-5.ensures

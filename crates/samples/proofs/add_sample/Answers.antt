@@ -26,7 +26,7 @@ loop-t-preserved c =
     let a = c.args in
     let loop = c.loop-t in
     let before = stood a.before.fractions a.samples.now a.n loop.t c.requires.fractions_value.0 c.loop-t-test.true in
-    let fraction = c.read_u16-fraction.ensures.0 in (
+    let fraction = c.read-fraction.ensures.0 in (
       omega arith,
       sum_more (fraction_at a.samples.now a.n) loop.t loop.invariant.1 fraction,
       omega arith,

@@ -19,13 +19,13 @@ unfolding added_to with_month
 returns c =
     let e : c.args.n + 1 - 1 ≡ c.args.n = omega arith in
     c.write.ensures
-    ∙ rw (e, c.read-slot.ensures.0, c.read_u64-3.ensures, c.read_u64-2.ensures, c.read_u64.ensures)
+    ∙ rw (e, c.read-slot.ensures.0, c.read-3.ensures.0, c.read-2.ensures.0, c.read.ensures.0)
 
 pub overflow_add-more-3 : goal.overflow_add-more-3
-overflow_add-more-3 c = omega (arith, (fits _ _ _ c.read-slot.ensures.0 c.requires.month_fits).x0, c.read_u64.ensures)
+overflow_add-more-3 c = omega (arith, (fits _ _ _ c.read-slot.ensures.0 c.requires.month_fits).x0, c.read.ensures.0)
 
 pub overflow_add-more-4 : goal.overflow_add-more-4
-overflow_add-more-4 c = omega (arith, (fits _ _ _ c.read-slot.ensures.0 c.requires.month_fits).figure, c.read_u64-2.ensures)
+overflow_add-more-4 c = omega (arith, (fits _ _ _ c.read-slot.ensures.0 c.requires.month_fits).figure, c.read-2.ensures.0)
 
 pub overflow_add-more-5 : goal.overflow_add-more-5
-overflow_add-more-5 c = omega (arith, (fits _ _ _ c.read-slot.ensures.0 c.requires.month_fits).bound, c.read_u64-3.ensures)
+overflow_add-more-5 c = omega (arith, (fits _ _ _ c.read-slot.ensures.0 c.requires.month_fits).bound, c.read-3.ensures.0)

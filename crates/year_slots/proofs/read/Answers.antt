@@ -6,11 +6,11 @@ pub returns : goal.returns
 unfolding slot_at
 returns c = (
   rw (
-    c.read_u64-3.ensures,
-    c.read_u64-2.ensures,
-    c.read_u64.ensures,
-    c.read_u32-2.ensures.0,
-    c.read_u32.ensures.0,
+    c.read-5.ensures.0,
+    c.read-4.ensures.0,
+    c.read-3.ensures.0,
+    c.read-2.ensures.0,
+    c.read.ensures.0,
   ),
-  c.read_u32-2.ensures.1,
+  c.read-2.ensures.1,
 )

@@ -20,7 +20,7 @@ returns c =
     then at 24 totals four (bytes_of 8 a.slot.bound) refl
     (then at 16 totals three (bytes_of 8 a.slot.figure) refl
     (then at 8 totals two (bytes_of 8 a.slot.x0) refl
-    (then at 4 totals one (bytes_of 4 a.slot.months) refl c.write_u32.ensures c.write_u32-2.ensures)
-    c.write_u64.ensures)
-    c.write_u64-2.ensures)
-    c.write_u64-3.ensures
+    (then at 4 totals one (bytes_of 4 a.slot.months) refl c.write.ensures c.write-2.ensures)
+    c.write-3.ensures)
+    c.write-4.ensures)
+    c.write-5.ensures

@@ -72,22 +72,22 @@ less-requires c =
     let ran = one_ran a.ledger a.totals.now a.bytes.now a.out.now c.if-totals-ne-BYTES.false c.if-bytes-ne-BYTES.false e.value e.totals_after e.out_after in
     rw (ran.ledger c.if-end-ne0.false) (omega (arith, released_after a.ledger a.bytes.now t place))
 
-pub read_u64-requires : goal.read_u64-requires
-read_u64-requires c =
+pub read-requires-clause-room : goal.read-requires-clause-room
+read-requires-clause-room c =
     let a = c.args in
     let e = c.run_months-end.ensures in
     let ran = one_ran a.ledger a.totals.now a.bytes.now a.out.now c.if-totals-ne-BYTES.false c.if-bytes-ne-BYTES.false e.value e.totals_after e.out_after in
     omega (arith, ran.room c.if-end-ne0.false)
 
-pub read_u64-requires-2 : goal.read_u64-requires-2
-read_u64-requires-2 c =
+pub read-requires-2-clause-room : goal.read-requires-2-clause-room
+read-requires-2-clause-room c =
     let a = c.args in
     let e = c.run_months-end.ensures in
     let ran = one_ran a.ledger a.totals.now a.bytes.now a.out.now c.if-totals-ne-BYTES.false c.if-bytes-ne-BYTES.false e.value e.totals_after e.out_after in
     omega (arith, ran.room c.if-end-ne0.false)
 
-pub read_u64-requires-3 : goal.read_u64-requires-3
-read_u64-requires-3 c =
+pub read-requires-3-clause-room : goal.read-requires-3-clause-room
+read-requires-3-clause-room c =
     let a = c.args in
     let e = c.run_months-end.ensures in
     let ran = one_ran a.ledger a.totals.now a.bytes.now a.out.now c.if-totals-ne-BYTES.false c.if-bytes-ne-BYTES.false e.value e.totals_after e.out_after in
@@ -100,7 +100,7 @@ returns c =
     let ran = one_ran a.ledger a.totals.now a.bytes.now a.out.now c.if-totals-ne-BYTES.false c.if-bytes-ne-BYTES.false e.value e.totals_after e.out_after in
     let none = c.if-end-ne0.false in
     record {
-      value = answer_is a.ledger a.totals.now a.bytes.now a.out.now (sym ran.refusal ∙ none) (ran.ledger none) (ran.says none) c.less.ensures c.read_u64.ensures c.read_u64-2.ensures c.read_u64-3.ensures;
+      value = answer_is a.ledger a.totals.now a.bytes.now a.out.now (sym ran.refusal ∙ none) (ran.ledger none) (ran.says none) c.less.ensures c.read.ensures.0 c.read-2.ensures.0 c.read-3.ensures.0;
       totals_after = ran.totals_after;
       out_after = ran.out_after;
     }

@@ -23,45 +23,45 @@ returns c =
     let figure = bound in
     let x0 = figure in
     let s = x0.args in record {
-      value = says s.out.now s.at c.accepted.ensures.value x0.read_u16.ensures.0 x0.read_u64.ensures
-          figure.read_u64-2.ensures bound.read_u64-3.ensures stock.read_u64-4.ensures;
+      value = says s.out.now s.at c.accepted.ensures.value x0.read.ensures.0 x0.read-2.ensures.0
+          figure.read-3.ensures.0 bound.read-4.ensures.0 stock.read-5.ensures.0;
       lendable = c.accepted.ensures.lendable;
     }
 
-pub read_u16-requires : goal.read_u16-requires
-read_u16-requires c = omega (arith, c.requires)
+pub read-requires-clause-room : goal.read-requires-clause-room
+read-requires-clause-room c = omega (arith, c.requires)
 
-pub overflow_cast-read_u16 : goal.overflow_cast-read_u16
-overflow_cast-read_u16 c = omega (arith, c.read_u16.ensures.1)
+pub overflow_cast-read : goal.overflow_cast-read
+overflow_cast-read c = omega (arith, c.read.ensures.1)
 
 pub overflow_add-at : goal.overflow_add-at
 overflow_add-at c =
     let room : c.args.at + 48 < 2 ^ 64 = search rules in
     omega (arith, room)
 
-pub read_u64-requires : goal.read_u64-requires
-read_u64-requires c = omega (arith, c.requires)
+pub read-requires-2-clause-room : goal.read-requires-2-clause-room
+read-requires-2-clause-room c = omega (arith, c.requires)
 
 pub overflow_add-at-2 : goal.overflow_add-at-2
 overflow_add-at-2 c =
     let room : c.args.at + 48 < 2 ^ 64 = search rules in
     omega (arith, room)
 
-pub read_u64-requires-2 : goal.read_u64-requires-2
-read_u64-requires-2 c = omega (arith, c.requires)
+pub read-requires-3-clause-room : goal.read-requires-3-clause-room
+read-requires-3-clause-room c = omega (arith, c.requires)
 
 pub overflow_add-at-3 : goal.overflow_add-at-3
 overflow_add-at-3 c =
     let room : c.args.at + 48 < 2 ^ 64 = search rules in
     omega (arith, room)
 
-pub read_u64-requires-3 : goal.read_u64-requires-3
-read_u64-requires-3 c = omega (arith, c.requires)
+pub read-requires-4-clause-room : goal.read-requires-4-clause-room
+read-requires-4-clause-room c = omega (arith, c.requires)
 
 pub overflow_add-at-4 : goal.overflow_add-at-4
 overflow_add-at-4 c =
     let room : c.args.at + 48 < 2 ^ 64 = search rules in
     omega (arith, room)
 
-pub read_u64-requires-4 : goal.read_u64-requires-4
-read_u64-requires-4 c = omega (arith, c.requires)
+pub read-requires-5-clause-room : goal.read-requires-5-clause-room
+read-requires-5-clause-room c = omega (arith, c.requires)

@@ -12,4 +12,4 @@ unfolding mass_of
 returns c =
     let a = c.args in
     let there : a.at + 16 + 4 * a.place ≡ a.at + (16 + 4 * a.place) = omega arith in
-    c.read_u32.ensures.0 ∙ ap (number_at 4 a.file.now) there ∙ sym (number_in a.file.now a.at 4 (16 + 4 * a.place) (omega (arith, c.requires.1)))
+    c.read.ensures.0 ∙ ap (number_at 4 a.file.now) there ∙ sym (number_in a.file.now a.at 4 (16 + 4 * a.place) (omega (arith, c.requires.1)))

@@ -11,7 +11,7 @@ loop-t-preserved c =
     let a = c.args in
     let comes = c.mass_at-mass.ensures in
     let was = c.mass_at.ensures in
-    let wrote = c.write_u32.ensures in
+    let wrote = c.write.ensures in
     elim c.if-mass-mass_at.branch [
       | then-mass-mass_at w ↦ other_done a.file.now a.at a.places c.requires.0 (λ i. (c.type_inv.file i).fits) c.requires.2 a.out.now c.loop-t-test.true c.loop-t.invariant comes was wrote w.if-mass-mass_at.true w.bits-is
       | else-mass-mass_at w ↦ same_done a.file.now a.at a.places c.requires.0 (λ i. (c.type_inv.file i).fits) c.requires.2 a.out.now c.loop-t-test.true c.loop-t.invariant comes was wrote w.if-mass-mass_at.false w.bits-is

@@ -15,7 +15,7 @@ returns-clause-out_after c =
     let file = a.file.now in
     let head =
     head_written file a.out.now a.at c.requires.0 (λ i. (c.type_inv.file i).fits)
-    c.read_u64.ensures c.read_u64-2.ensures c.write_u64.ensures c.write_u64-2.ensures
+    c.read.ensures.0 c.read-2.ensures.0 c.write.ensures c.write-2.ensures
     in
     two_written (record_head (record_from file a.at)) (joined (moved file a.at a.places) 8) a.out.now a.at 16
     (length-take-le 16 (record_from file a.at) (omega (arith, whole_at file a.at c.requires.0))) refl refl head c.write_masses.ensures.out_after

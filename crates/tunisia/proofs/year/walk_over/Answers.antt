@@ -20,7 +20,7 @@ loop-left-preserved c =
     let file = c.args.file.now in
     let out = c.args.out.now in
     let some : loop.left ≡ suc (loop.left - 1) = omega arith in
-    let x0 = c.read_u64-x0.ensures in (
+    let x0 = c.read-x0.ensures.0 in (
       omega (arith, loop.invariant.0, some),
       (rw some at loop.invariant.1)
           ∙ rw (c.walk_on-next.ensures, add-sub_cancel_left loop.at record_bytes, x0)

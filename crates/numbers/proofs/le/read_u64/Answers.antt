@@ -1,9 +1,0 @@
--- The bytes of a number are those of its two halves.
-use native.Mathlib.Omega.{arith}
-use Rattle.numbers.proofs.Bytes.{number_join}
-use Rattle.numbers.proofs.le.read_u64.Goals as goal
-
-pub returns : goal.returns
-returns c =
-    let a = c.args
-    in omega (arith, number_join 4 4 a.bytes.now a.at)
