@@ -5,7 +5,6 @@
 
 ghost use Rattle.std.specs.Prelude.{◌≡◌, ◌≤◌, length, take};
 ghost use Rattle.image.specs.Image.{image_bytes, ledger_of};
-ghost use Rattle.lines.specs.Listing.{most_text};
 
 use ledger::{Answer, Ledger};
 use run::Outcome;
@@ -19,10 +18,10 @@ pub const RUN_HEAD: usize = image::BYTES + 4;
 pub fn decay(rt: &impl Print, payload: &[u8])
     ensures { result ≡ tt }
 {
-    if payload.len() < 3 {
+    let [kind, low, high, ..] = payload else {
         return;
-    }
-    let entry = decay::entry(payload[0], numbers::read::<2>(payload, 1) as u16);
+    };
+    let entry = decay::entry(*kind, u16::from_le_bytes([*low, *high]));
     print::number(rt, entry as u64, b'\n');
 }
 
@@ -36,37 +35,29 @@ pub fn ledger_of(payload: &[u8]) -> Ledger
 
 // Prints the 30 numbers of a ledger with a space after each.
 fn put_ledger(rt: &impl Print, ledger: Ledger) {
-    let brought = ledger.brought;
-    let stock = ledger.stock;
-    let released = ledger.released;
     let year = ledger.year;
-    print::three(
-        rt,
+    let numbers = [
         ledger.n as u64,
         ledger.kind as u64,
         ledger.climate as u64,
-    );
-    print::three(
-        rt,
         year.factor as u64,
         year.class as u64,
         year.captured as u64,
-    );
-    print::eight(rt, brought);
-    print::eight(rt, stock);
-    print::eight(rt, released);
+    ];
+    print::spaced(rt, &numbers);
+    print::spaced(rt, &ledger.brought);
+    print::spaced(rt, &ledger.stock);
+    print::spaced(rt, &ledger.released);
 }
 
 // Prints the numbers of a step's answer with a space after each.
 pub fn put_answer(rt: &impl Print, answer: Answer)
     ensures { result ≡ tt }
 {
-    let ledger = answer.ledger;
-    let releases = answer.releases;
     print::number(rt, answer.refusal as u64, b' ');
-    put_ledger(rt, ledger);
-    print::eight(rt, releases);
-    print::three(rt, answer.x0, answer.figure, answer.bound);
+    put_ledger(rt, answer.ledger);
+    print::spaced(rt, &answer.releases);
+    print::spaced(rt, &[answer.x0, answer.figure, answer.bound]);
 }
 
 // Prints one step, with the room that the case asks for.
@@ -88,9 +79,11 @@ pub fn step(rt: &impl Print, payload: &[u8])
 pub fn put_outcome(rt: &impl Print, outcome: Outcome)
     ensures { result ≡ tt }
 {
-    let ledger = outcome.ledger;
-    print::three(rt, outcome.accepted, outcome.refusal as u64, outcome.work);
-    put_ledger(rt, ledger);
+    print::spaced(
+        rt,
+        &[outcome.accepted, outcome.refusal as u64, outcome.work],
+    );
+    put_ledger(rt, outcome.ledger);
 }
 
 // Prints a whole run, with the room that the case asks for.
@@ -108,19 +101,12 @@ pub fn run(rt: &impl Print, payload: &[u8])
     print::bytes(rt, lent, b'\n');
 }
 
-// Answers room for the text of any listing.
-fn text() -> [u8; lines::TEXT]
-    ensures { most_text ≡ length result }
-{
-    [0; lines::TEXT]
-}
-
-// Prints the listing of a file.
+// Prints the listing of a file; the text has room for any.
 pub fn listing(rt: &impl Print, payload: &[u8])
     ensures { result ≡ tt }
 {
-    let mut text = text();
-    let listed = lines::listing(payload, &mut text);
-    let length = listed.length;
-    print::bytes(rt, &text[..length], b'\n');
+    let mut text = [0u8; lines::TEXT];
+    if let Ok(length) = lines::listing(payload, &mut text) {
+        print::bytes(rt, &text[..length], b'\n');
+    }
 }

@@ -27,11 +27,11 @@ fn write_masses(file: &[u8], at: usize, places: [usize; 8], out: &mut [u8]) -> u
     ensures out_after { out.new ≡ sets out.old (at + 16) (joined (λ t. mass_bytes (record_from file.now at) (get_or places t 0)) 8) }
 {
     let mut bits = 0u8;
-    for t in 0..8usize {
-        let mass = mass_at(file, at, places[t]);
+    for (t, place) in places.iter().enumerate() {
+        let mass = mass_at(file, at, *place);
         numbers::write::<4>(out, at + HEAD + MASS * t, mass);
         if mass != mass_at(file, at, t) {
-            bits = bits | 1 << t;
+            bits |= 1 << t;
         }
     }
     bits

@@ -13,7 +13,7 @@ use crate::masses::write_record;
 fn ones_in(byte: u8) -> u64
     ensures { (result ≡ ones byte) × (result ≤ 8) }
 {
-    u32::count_ones(byte as u32) as u64
+    byte.count_ones() as u64
 }
 
 // Writes each record anew and its byte of the report, and answers how many bits of the report are set.
@@ -25,12 +25,10 @@ pub(crate) fn rewrite(file: &[u8], places: [usize; 8], out: &mut [u8], report: &
 {
     let count = file.len() / record::BYTES;
     let mut changed = 0u64;
-    let mut q: usize = 0;
-    while q < count {
+    for q in 0..count {
         let bits = write_record(file, record::BYTES * q, places, out);
         report[q] = bits;
         changed += ones_in(bits);
-        q += 1;
     }
     changed
 }

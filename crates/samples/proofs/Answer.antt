@@ -1,5 +1,5 @@
 -- The answer by what was tested: each refusal where those ahead of it are not there, and the masses where none is.
-use mathlib.Core.Path.{◌≡◌, refl, sym, ◌∙◌}
+use mathlib.Core.Path.{◌≡◌, refl, sym, ap, ◌∙◌}
 use mathlib.Core.Bool.{Bool, true, false, cond, ◌&&◌}
 use mathlib.Core.List.{List}
 use mathlib.Core.Logic.{◌⊎◌, inl, inr, ⊎_elim}
@@ -13,7 +13,10 @@ use Rattle.numbers.specs.Fault.{between, first_of}
 use Rattle.numbers.proofs.Eight.{eight_same, both_true, either_true}
 use Rattle.numbers.proofs.Fault.{between_low, between_high, clear}
 use Rattle.waste.specs.Waste.{mass_limit}
-use Rattle.samples.specs.Samples.{sample_bytes, whole_sample, least_samples, most_samples, month_samples, right_number, adds_up, number_of, mass_up_to, mass_of_type, sample_faults, sorted_into, unsorted, sorted_of}
+use Rattle.samples.specs.Samples.{sample_bytes, whole_sample, least_samples, most_samples, month_samples, right_number, adds_up, number_of, mass_up_to, mass_of_type, sample_faults, Sorted, sorted_into, unsorted, sorted_of, numbers_of}
+use Rattle.samples.specs.declared.SamplesRefusal.{SamplesRefusal}
+use Rattle.samples.specs.declared.SamplesRefusal.TheVariants.{TotalTooLarge, WrongNumber, NotWhole}
+use Rattle.std.proofs.Common.{Result, Ok, Err}
 use Rattle.samples.proofs.Laws.{of_place, by_type}
 
 -- A right number of samples is a year's or a month's.
@@ -99,3 +102,17 @@ module _ (kind total : ℕ) (samples : List ℕ) where
   nothing_sorted bad =
       let there : first_of (sample_faults samples kind total) ≡ 0 → ⊥ = λ e. bad (sorted_refusal ∙ e) in
       rw (ne_eqb (first_of (sample_faults samples kind total)) 0 there)
+
+-- The case of the answer that has these numbers: so two cases with the same numbers are one.
+case_of : Sorted → Result (List ℕ) SamplesRefusal
+case_of n = cond (eqb n.refusal 14) (Err TotalTooLarge) (cond (eqb n.refusal 15) (Err WrongNumber) (cond (eqb n.refusal 16) (Err NotWhole) (Ok n.masses)))
+
+same_case : (answer : Result (List ℕ) SamplesRefusal) → case_of (numbers_of answer) ≡ answer
+unfolding case_of
+same_case (Ok masses) = refl
+same_case (Err TotalTooLarge) = refl
+same_case (Err WrongNumber) = refl
+same_case (Err NotWhole) = refl
+
+pub one_sorted : (n : Sorted) (a b : Result (List ℕ) SamplesRefusal) → numbers_of a ≡ n → numbers_of b ≡ n → a ≡ b
+one_sorted n a b p q = sym (same_case a) ∙ ap case_of (p ∙ sym q) ∙ same_case b

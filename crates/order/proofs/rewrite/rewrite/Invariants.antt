@@ -2,7 +2,7 @@
 use mathlib.Core.Path.{◌≡◌}
 use mathlib.Core.Bool.{Bool}
 use mathlib.Core.List.{List, [], ◌∷◌}
-use Prim.Native.Nat.{ℕ, ◌-◌, ◌≤◌}
+use Prim.Native.Nat.{ℕ, ◌≤◌}
 use lib.ListN.{length, get_or}
 use lib.Seq.{sets}
 use Rattle.numbers.specs.Eight.{one, sum_of}
@@ -31,6 +31,3 @@ invariant-loop-q l = (l.q ≤ number_of_records l.file)
     × (l.changed ≡ sum_of (bits l.file l.places) l.q)
     × (length l.out ≡ length l.initial.out)
     × (length l.report ≡ length l.initial.report)
-
-abbrev pub decreases-loop-q : goal.decreases-loop-q
-decreases-loop-q l = number_of_records l.file - l.q

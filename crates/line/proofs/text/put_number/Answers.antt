@@ -1,8 +1,8 @@
 -- The digits that are put are the number in plain decimal.
 use Rattle.std.proofs.Common.{rules, ◌≡◌, ◌∙◌}
 use Rattle.line.specs.Line.{decimal_of}
-use Rattle.changes.proofs.Text.{plain_decimal}
-use Rattle.changes.proofs.put_number.Goals as goal
+use Rattle.line.proofs.Decimal.{plain_decimal}
+use Rattle.line.proofs.text.put_number.Goals as goal
 
 pub returns-clause-writes : goal.returns-clause-writes
 returns-clause-writes c =
