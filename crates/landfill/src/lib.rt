@@ -22,6 +22,7 @@ ghost use Rattle.landfill.specs.Entries.{cell_of};
 
 use door::{Cell, Point};
 use ledger::Ledger;
+use reductions::Stretch;
 use uncertainty::{FactorRefusal, Uncertainties};
 
 // Answers the table entry of a rate in thousandths, kind 1 by year and 2 by month, and 0 for any other rate or kind.
@@ -193,15 +194,28 @@ pub fn landfill_tunisia(
     ensures years_after { years.new ≡ (reduction_of file.now first last electricity.now fuel.now).years }
     ensures refused_after { refused.new ≡ (reduction_of file.now first last electricity.now fuel.now).refused }
 {
-    let over = tunisia::reduction_over(file, first, last, electricity, fuel);
-    let less = over.reduction;
-    *reference = over.reference;
-    *project = over.project;
-    *reduction = less;
-    *bound = over.bound;
+    let over = tunisia::reduction_over(file, Stretch { first, last }, electricity, fuel);
     *years = over.years;
-    *refused = over.refused;
-    over.refusal
+    *refused = match over.refused {
+        Some(why) => why.number(),
+        None => 0,
+    };
+    match over.amounts {
+        Ok(all) => {
+            *reference = all.reference;
+            *project = all.project;
+            *reduction = all.reduction;
+            *bound = all.bound;
+            0
+        }
+        Err(why) => {
+            *reference = 0;
+            *project = 0;
+            *reduction = 0;
+            *bound = 0;
+            why.number()
+        }
+    }
 }
 
 // Answers 0, fills the columns of the eight types with their releases and the ninth with the figures, and sets the stocks after the last record;
