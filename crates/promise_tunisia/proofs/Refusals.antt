@@ -20,7 +20,7 @@ use Rattle.ledger.specs.declared.book.Ledger.{Ledger}
 use Rattle.tunisia.specs.Years.{refusal_by_year, accepted_years, refusal_after}
 use Rattle.tunisia.specs.Reduction.{answer_over, no_answer, reduction_of}
 use Rattle.reductions.specs.Stretch.{most_grams, grams_light, is_stretch, stretch_refusal}
-use Rattle.tunisia.specs.declared.Reduction.{Reduction}
+use Rattle.tunisia.specs.Reduction.{Reduction}
 use Rattle.promise_tunisia.specs.Reported.{StretchOfYears, reported, Within, Light, NoneBefore6}
 
 -- A monthly record, after 5 and before 6.
