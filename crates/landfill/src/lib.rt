@@ -21,7 +21,7 @@ ghost use Rattle.month_calls.specs.MonthCalls.{take_month_here, month_totals_her
 ghost use Rattle.landfill.specs.Entries.{cell_of};
 
 use columns::TypeColumns;
-use door::{Cell, Point};
+use door::Cell;
 use ledger::Ledger;
 use reductions::Stretch;
 use uncertainty::{FactorRefusal, Uncertainties};
@@ -314,14 +314,20 @@ pub fn landfill_point(figure: u64, bound: u64, at: &mut f64, low: &mut f64, high
     ensures low_after { low.new ≡ (charted_of figure bound).point.low }
     ensures high_after { high.new ≡ (charted_of figure bound).point.high }
 {
-    let (refusal, point) = match door::chart(figure, bound) {
-        Ok(point) => (0, point),
-        Err(why) => (why.number(), Point::default()),
-    };
-    *at = point.figure;
-    *low = point.low;
-    *high = point.high;
-    refusal
+    match door::chart(figure, bound) {
+        Ok(point) => {
+            *at = point.figure;
+            *low = point.low;
+            *high = point.high;
+            0
+        }
+        Err(why) => {
+            *at = 0.0;
+            *low = 0.0;
+            *high = 0.0;
+            why.number()
+        }
+    }
 }
 
 // Writes the listing of a file at the start of the text and answers 0; a text with under 90 bytes for every line that the file can
