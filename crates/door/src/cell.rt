@@ -112,8 +112,7 @@ pub fn weigh(cell: Cell) -> Result<u32, CellRefusal>
     let Cell::Number(kg) = cell else {
         return Err(CellRefusal::EmptyCell);
     };
-    // a NaN, which alone differs from itself, in every mode
-    if kg != kg {
+    if kg.is_nan() {
         return Err(CellRefusal::NotWhole);
     }
     weigh_bits(f64::to_bits(kg))

@@ -20,6 +20,7 @@ ghost use Rattle.yearly_totals.specs.Months.{totals_after};
 ghost use Rattle.month_calls.specs.MonthCalls.{take_month_here, month_totals_here, run_months_here};
 ghost use Rattle.landfill.specs.Entries.{cell_of};
 
+use columns::TypeColumns;
 use door::{Cell, Point};
 use ledger::Ledger;
 use reductions::Stretch;
@@ -234,12 +235,26 @@ pub fn landfill_columns(
     ensures columns_after { nine wood.new paper.new food.new textiles.new garden.new inert.new domestic.new industrial.new figures.new ≡ columns_of file.now (nine wood.old paper.old food.old textiles.old garden.old inert.old domestic.old industrial.old figures.old) }
     ensures stocks_after { stocks.new ≡ (filled_of file.now (nine wood.old paper.old food.old textiles.old garden.old inert.old domestic.old industrial.old figures.old)).stocks }
 {
-    let filled = columns::fill(
-        file, wood, paper, food, textiles, garden, inert, domestic, industrial, figures,
-    );
-    let left = filled.stocks;
-    *stocks = left;
-    filled.refusal
+    let mut columns = TypeColumns {
+        wood,
+        paper,
+        food,
+        textiles,
+        garden,
+        inert,
+        domestic,
+        industrial,
+    };
+    match columns::fill(file, &mut columns, figures) {
+        Ok(left) => {
+            *stocks = left;
+            0
+        }
+        Err(why) => {
+            *stocks = [0; 8];
+            why.number()
+        }
+    }
 }
 
 // Takes one monthly record and adds it to its year's slot: the image, the totals, the output and the answer are written, or the refusal's number
@@ -304,7 +319,14 @@ pub fn landfill_listing(records: &[u8], text: &mut [u8], written: &mut u64) -> u
     ensures text_after { text.new ≡ text_of records.now text.old }
     ensures written_after { written.new ≡ (listed_of records.now (length text.old)).length }
 {
-    let listed = lines::listing(records, text);
-    *written = listed.length as u64;
-    listed.refusal
+    match lines::listing(records, text) {
+        Ok(length) => {
+            *written = length as u64;
+            0
+        }
+        Err(why) => {
+            *written = 0;
+            why.number()
+        }
+    }
 }

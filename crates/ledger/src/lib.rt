@@ -7,4 +7,4 @@ mod book;
 mod period;
 
 pub use answer::{CarbonTotals, Entered, Taken};
-pub use book::{Ledger, are_sound};
+pub use book::Ledger;

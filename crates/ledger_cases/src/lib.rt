@@ -6,8 +6,9 @@
 ghost use Rattle.std.specs.Prelude.{◌≡◌, ◌≤◌, length, take};
 ghost use Rattle.image.specs.Image.{image_bytes, ledger_of};
 
-use ledger::{Answer, Ledger};
-use run::Outcome;
+use ledger::{Ledger, Taken};
+use refusal::Refusal;
+use run::RunEnd;
 
 // What stands ahead of a step's record, and of a run's records: the image, and the room in 2 bytes or in 4.
 pub const STEP_HEAD: usize = image::BYTES + 2;
@@ -50,14 +51,29 @@ fn put_ledger(rt: &impl Print, ledger: Ledger) {
     print::spaced(rt, &ledger.released);
 }
 
-// Prints the numbers of a step's answer with a space after each.
-pub fn put_answer(rt: &impl Print, answer: Answer)
+// Answers what a step says that took nothing.
+fn nothing_taken(ledger: Ledger) -> Taken {
+    Taken {
+        ledger,
+        releases: [0; 8],
+        x0: 0,
+        figure: 0,
+        bound: 0,
+    }
+}
+
+// Prints the numbers of a step's answer with a space after each; of a refused one the ledger before it and zeros.
+pub fn put_answer(rt: &impl Print, before: Ledger, answer: Result<Taken, Refusal>)
     ensures { result ≡ tt }
 {
-    print::number(rt, answer.refusal as u64, b' ');
-    put_ledger(rt, answer.ledger);
-    print::spaced(rt, &answer.releases);
-    print::spaced(rt, &[answer.x0, answer.figure, answer.bound]);
+    let (refusal, taken) = match answer {
+        Ok(taken) => (0, taken),
+        Err(why) => (why.number(), nothing_taken(before)),
+    };
+    print::number(rt, refusal as u64, b' ');
+    put_ledger(rt, taken.ledger);
+    print::spaced(rt, &taken.releases);
+    print::spaced(rt, &[taken.x0, taken.figure, taken.bound]);
 }
 
 // Prints one step, with the room that the case asks for.
@@ -70,20 +86,19 @@ pub fn step(rt: &impl Print, payload: &[u8])
     let mut out = print::buffer();
     let room = numbers::read::<2>(payload, image::BYTES) as usize;
     let lent = &mut out[0..room];
-    let answer = ledger_of(payload).take(&payload[STEP_HEAD..], lent);
-    put_answer(rt, answer);
+    let ledger = ledger_of(payload);
+    let answer = ledger.take(&payload[STEP_HEAD..], lent);
+    put_answer(rt, ledger, answer);
     print::bytes(rt, lent, b'\n');
 }
 
-// Prints the numbers of a run's answer with a space after each.
-pub fn put_outcome(rt: &impl Print, outcome: Outcome)
+// Prints the numbers of a run's end with a space after each.
+pub fn put_outcome(rt: &impl Print, end: RunEnd)
     ensures { result ≡ tt }
 {
-    print::spaced(
-        rt,
-        &[outcome.accepted, outcome.refusal as u64, outcome.work],
-    );
-    put_ledger(rt, outcome.ledger);
+    let refusal = refusal::number_or_zero(end.refusal);
+    print::spaced(rt, &[end.accepted, refusal as u64, end.work]);
+    put_ledger(rt, end.ledger);
 }
 
 // Prints a whole run, with the room that the case asks for.
@@ -96,8 +111,8 @@ pub fn run(rt: &impl Print, payload: &[u8])
     let mut out = print::buffer();
     let room = print::room_of(numbers::read::<4>(payload, image::BYTES));
     let lent = &mut out[0..room];
-    let outcome = run::run(ledger_of(payload), &payload[RUN_HEAD..], lent);
-    put_outcome(rt, outcome);
+    let end = run::run(ledger_of(payload), &payload[RUN_HEAD..], lent);
+    put_outcome(rt, end);
     print::bytes(rt, lent, b'\n');
 }
 

@@ -6,14 +6,11 @@ ghost use Rattle.refusal.specs.Reach.{reach_of, left_over};
 use crate::why::Refusal;
 
 // Answers how many bytes of so many the records take that are whole and have room for their output records.
-#[tactic(auto, unfolding(crate::specs::Reach::reach_of))]
+#[tactic(auto, using(std::proofs::lemmas::Bool::Decides::nat_tests), unfolding(crate::specs::Reach::reach_of))]
 pub fn reach(records: usize, room: usize) -> usize
     ensures { result ≡ reach_of records room }
 {
-    if records < room {
-        return records / record::BYTES * record::BYTES;
-    }
-    room / record::BYTES * record::BYTES
+    records.min(room) / record::BYTES * record::BYTES
 }
 
 // Answers the refusal of what is left of a file after them, if any: no whole record (1), or no room for it (2).

@@ -72,11 +72,7 @@ pub fn early(
 fn are_light(bytes: &[u8]) -> bool
     ensures { result ≡ every_of (light bytes.now) 8 }
 {
-    let mut all = true;
-    for t in 0..8u8 {
-        all = all & record::is_light(bytes, t);
-    }
-    all
+    (0..8u8).all(|t| record::is_light(bytes, t))
 }
 
 // Answers the refusal of a record, if any: the one that everything before the masses decides, and else 9 for a mass over the limit.

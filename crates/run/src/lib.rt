@@ -13,7 +13,7 @@ ghost use Rattle.run.specs.Outcome.{outcome_numbers, one_answer};
 ghost use Rattle.ledger.specs.Numbers.{answer_numbers};
 ghost use Rattle.refusal.specs.Numbers.{numbered};
 
-use ledger::{Ledger, Taken, are_sound};
+use ledger::{Ledger, Taken};
 use refusal::Refusal;
 
 // The ledger after the last accepted record, how many records were accepted, the refusal of the next one, if any, and the decay
@@ -37,12 +37,10 @@ impl RunEnd {
         if let Some(why) = self.refusal {
             return Err(why);
         }
-        let after = self.ledger;
-        let released = after.released;
-        let earlier = before.released;
+        let RunEnd { ledger, .. } = self;
         Ok(Taken {
-            ledger: after,
-            releases: carbon::less(released, earlier),
+            ledger,
+            releases: carbon::less(ledger.released, before.released),
             x0: numbers::read::<8>(out, 8),
             figure: numbers::read::<8>(out, 16),
             bound: numbers::read::<8>(out, 24),
@@ -68,23 +66,12 @@ fn settled(ledger: Ledger, before: [u64; 8], accepted: u64) -> Ledger
     requires ledger_value { (accepted ≡ 0 → ⊥) → (sound ledger ≡ true) × (ledger.released ≡ eight (released_at ledger)) }
     ensures { result ≡ ledger }
 {
-    let year = ledger.year;
-    let brought = ledger.brought;
-    let stock = ledger.stock;
     let released = if accepted == 0 {
         before
     } else {
-        carbon::less(brought, stock)
+        carbon::less(ledger.brought, ledger.stock)
     };
-    Ledger {
-        n: ledger.n,
-        kind: ledger.kind,
-        climate: ledger.climate,
-        year,
-        brought,
-        stock,
-        released,
-    }
+    Ledger { released, ..ledger }
 }
 
 // Takes the records of a file one after another, writes the output record of each accepted one after the last, and stops at
@@ -93,16 +80,7 @@ pub fn run(ledger: Ledger, records: &[u8], out: &mut [u8]) -> RunEnd
     ensures value { outcome_numbers result ≡ outcome_of (run_of ledger (records_of records.now) (length out.old)) }
     ensures out_after { out.new ≡ out_of (run_of ledger (records_of records.now) (length out.old)) out.old }
 {
-    let year = ledger.year;
-    let good = are_sound(
-        ledger.n,
-        ledger.kind,
-        ledger.climate,
-        year,
-        &ledger.brought,
-        &ledger.stock,
-        &ledger.released,
-    );
+    let good = ledger.is_sound();
     let entries = run_entries(ledger, records);
     let reach = refusal::reach(records.len(), out.len());
     let first = ledger.n;
@@ -134,8 +112,7 @@ pub fn run(ledger: Ledger, records: &[u8], out: &mut [u8]) -> RunEnd
             }
         }
         let entered = ledger.enter(entries, bytes, &mut out[at..at + Ledger::BYTES]);
-        let next = entered.ledger;
-        ledger = next;
+        ledger = entered.ledger;
         work += entered.work;
         at += Ledger::BYTES;
     };

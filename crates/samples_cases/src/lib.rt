@@ -13,11 +13,10 @@ fn put_sorted(rt: &impl Print, answer: Result<[u32; 8], SamplesRefusal>) {
         Err(why) => (why.number(), [0; 8]),
     };
     print::number(rt, refusal as u64, b' ');
-    let [front @ .., last] = masses;
-    for mass in front {
-        print::number(rt, mass as u64, b' ');
+    for mass in &masses[..7] {
+        print::number(rt, *mass as u64, b' ');
     }
-    print::number(rt, last as u64, b'\n');
+    print::number(rt, masses[7] as u64, b'\n');
 }
 
 // Prints the masses of a total and its samples.

@@ -8,7 +8,7 @@ ghost use Rattle.year_factors.specs.YearFactors.{year_of, no_year, repeats, shar
 const MONTHS: u16 = 12;
 
 // A year's captured share f in hundredths of a percent, correction factor in percent, and site class; all 0 where none is remembered.
-#[derive(Clone, Copy)]
+#[derive(Clone, Copy, Debug, Default, PartialEq, Eq)]
 pub struct YearFactors {
     pub captured: u16,
     pub factor: u8,

@@ -43,7 +43,7 @@ passed {l} {file} {good} {at} mid none each =
     no_refusal mid (rw (add-sub_cancel_left at 48) at none) (λ t b. rw (add-sub_cancel_left at 48) at (each t b))
 
 pub records-init : goal.records-init
-records-init c = (run_starts _ _ _ _ _ c.are_sound-good.ensures c.run_entries-entries.ensures, omega arith)
+records-init c = (run_starts _ _ _ _ _ c.is_sound-good.ensures c.run_entries-entries.ensures, omega arith)
 
 pub slice_bounds-bytes-end : goal.slice_bounds-bytes-end
 slice_bounds-bytes-end c = let b : c.records.at + 48 ≤ length c.args.records.now = (ready c.records.invariant.0 c.reach-reach.ensures (omega arith)).in_file in search rules

@@ -1,5 +1,5 @@
 -- `MidListing` holds at the head of the loop; each stretch and the end is a law of it.
-use Rattle.std.proofs.Common.{◌≡◌, ℕ, refl, ap, ◌∙◌, Option, Some, None}
+use Rattle.std.proofs.Common.{◌≡◌, refl, ap, ◌∙◌, Option, Some}
 use Rattle.std.specs.Slice.Iter.{chunks_rest}
 use Rattle.refusal.specs.Numbers.{numbered}
 use Rattle.refusal.specs.declared.why.Refusal.{Refusal}
@@ -30,17 +30,17 @@ put_refusal-requires c =
     let next = c.in-Some.ensures.steps.1 in
     let ran = c.run-ran.ensures in
     let put = c.put_lines-length.ensures in
-    refusal_room h.0 c.in-Some.part.now (chunks_rest c.next.new.self) next.0 h.1 next.1 c.loop-part.out h.2 ran.value ran.out_after put.writes put.upper_bound (some c.in-Some-2.why c.in-Some-2.is)
+    refusal_room h.0 c.in-Some.part.now (chunks_rest c.next.new.self) next.0 h.1 next.1 c.loop-part.out h.2 ran.value ran.out_after put.writes put.upper_bound (some c.in-Some-refusal.why c.in-Some-refusal.is)
 
-pub returns-in-Some : goal.returns-in-Some
-returns-in-Some c =
+pub returns-in-Some-refusal : goal.returns-in-Some-refusal
+returns-in-Some-refusal c =
     let h = c.loop-part.invariant in
     let next = c.in-Some.ensures.steps.1 in
     let ran = c.run-ran.ensures in
     let put = c.put_lines-length.ensures in
     let end = c.put_refusal.ensures in
     stretch_ends h.0 c.in-Some.part.now (chunks_rest c.next.new.self) next.0 h.1 next.1 c.loop-part.out h.2 ran.value ran.out_after put.writes put.upper_bound
-    (some c.in-Some-2.why c.in-Some-2.is) (rw c.in-Some-2.is end.writes) end.upper_bound
+    (some c.in-Some-refusal.why c.in-Some-refusal.is) (rw c.in-Some-refusal.is end.writes) end.upper_bound
 
 pub loop-part-preserved : goal.loop-part-preserved
 loop-part-preserved c =

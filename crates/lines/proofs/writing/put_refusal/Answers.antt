@@ -10,4 +10,4 @@ put-requires c =
 pub returns : goal.returns
 returns c =
     let lent = c.refused.ensures.lendable in
-    record { writes = rw (line_is c.refused.ensures.value) at c.put.ensures; upper_bound = omega (arith, c.put.ensures.ends, lent.whole, lent.within) }
+    record { writes = rw (line_is c.refused.ensures.value, c.number.ensures) at c.put.ensures; upper_bound = omega (arith, c.put.ensures.ends, lent.whole, lent.within) }

@@ -34,16 +34,16 @@ returns-in-Some c =
     let r = refused_by a.self a.bytes.now a.out.now (number_of c.in-Some.why) (sym found) (number_some c.in-Some.why) in
     record { value = r.0; out_after = r.1 }
 
-pub enter-entered-requires-clause-out_value : goal.enter-entered-requires-clause-out_value
+pub enter-requires-clause-out_value : goal.enter-requires-clause-out_value
 unfolding refusal_of
-enter-entered-requires-clause-out_value c =
+enter-requires-clause-out_value c =
     first_with_masses _ _ _ _ _ _ _ ∙ sym (rw (c.early-early.ensures, c.is_sound-good.ensures) at c.in_default.ensures)
 
 pub less-requires : goal.less-requires
 unfolding entered_of accepted_of
 less-requires c = λ t place.
     let a = c.args in
-    rw c.enter-entered.ensures.value (omega (arith, released_after a.self a.bytes.now t place))
+    rw c.enter.ensures.value (omega (arith, released_after a.self a.bytes.now t place))
 
 pub returns : goal.returns
 unfolding refusal_of
@@ -52,6 +52,6 @@ returns c =
     let none : refusal_of a.self a.bytes.now (length a.out.now) ≡ 0 =
     first_with_masses _ _ _ _ _ _ _ ∙ sym (rw (c.early-early.ensures, c.is_sound-good.ensures) at c.in_default.ensures) in
     record {
-      value = answer_is a.self a.bytes.now (length a.out.now) none c.enter-entered.ensures.value c.less.ensures;
-      out_after = c.enter-entered.ensures.out_after ∙ sym (accepted_writes a.self a.bytes.now a.out.now none);
+      value = answer_is a.self a.bytes.now (length a.out.now) none c.enter.ensures.value c.less.ensures;
+      out_after = c.enter.ensures.out_after ∙ sym (accepted_writes a.self a.bytes.now a.out.now none);
     }

@@ -2,7 +2,7 @@
 use mathlib.Core.Path.{sym}
 use Rattle.ledger.specs.Refusal.{within_at}
 use Rattle.ledger.proofs.Sound.{sound_tests}
-use Rattle.ledger.proofs.book.are_sound.Goals as goal
+use Rattle.ledger.proofs.book.Ledger.is_sound.Goals as goal
 
 pub returns : goal.returns
 unfolding within_at
