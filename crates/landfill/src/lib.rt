@@ -206,10 +206,7 @@ pub fn landfill_tunisia(
 {
     let over = tunisia::reduction_over(file, Stretch { first, last }, electricity, fuel);
     *years = over.years;
-    *refused = match over.refused {
-        Some(why) => why.number(),
-        None => 0,
-    };
+    *refused = refusal::number_or_zero(over.refused);
     match over.amounts {
         Ok(all) => {
             *reference = all.reference;
