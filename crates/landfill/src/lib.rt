@@ -80,11 +80,20 @@ pub fn landfill_totals(ledger: &[u8], stock: &mut u64, brought: &mut u64, releas
     ensures brought_after { brought.new ≡ (totals_of (ledger_of ledger.now)).brought }
     ensures released_after { released.new ≡ (totals_of (ledger_of ledger.now)).released }
 {
-    let totals = image::read(ledger).totals();
-    *stock = totals.stock;
-    *brought = totals.brought;
-    *released = totals.released;
-    totals.refusal
+    match image::read(ledger).totals() {
+        Ok(totals) => {
+            *stock = totals.stock;
+            *brought = totals.brought;
+            *released = totals.released;
+            0
+        }
+        Err(why) => {
+            *stock = 0;
+            *brought = 0;
+            *released = 0;
+            why.number()
+        }
+    }
 }
 
 // Answers 0 and the mass in kilograms that a cell names, or 10, 11 or 12 and mass 0; `filled` 0 is an empty cell.
@@ -197,10 +206,7 @@ pub fn landfill_tunisia(
 {
     let over = tunisia::reduction_over(file, Stretch { first, last }, electricity, fuel);
     *years = over.years;
-    *refused = match over.refused {
-        Some(why) => why.number(),
-        None => 0,
-    };
+    *refused = refusal::number_or_zero(over.refused);
     match over.amounts {
         Ok(all) => {
             *reference = all.reference;
