@@ -10,8 +10,9 @@ use lib.Dec.{eqb}
 use lib.ListN.{length, get_or}
 use Rattle.numbers.specs.Eight.{eight, sum_of, every_of}
 use Rattle.numbers.specs.Fault.{between, first_of}
-use Rattle.numbers.proofs.Eight.{eight_same, both_true, either_true}
+use Rattle.numbers.proofs.Eight.{eight_same, both_true, either_true, either_false}
 use Rattle.numbers.proofs.Fault.{between_low, between_high, clear}
+use Rattle.waste.specs.Kind.{is_kind}
 use Rattle.waste.specs.Waste.{mass_limit}
 use Rattle.samples.specs.Samples.{sample_bytes, whole_sample, least_samples, most_samples, month_samples, right_number, adds_up, number_of, mass_up_to, mass_of_type, sample_faults, Sorted, sorted_into, unsorted, sorted_of, numbers_of}
 use Rattle.samples.specs.declared.SamplesRefusal.{SamplesRefusal}
@@ -28,6 +29,12 @@ year_or_month kind Z e =
     inl (eqb-true kind 1 both.0, between_low least_samples Z most_samples both.1, between_high least_samples Z most_samples both.1))
     (λ month. let both = both_true (eqb kind 2) (eqb Z month_samples) month in inr (eqb-true kind 2 both.0, eqb-true Z month_samples both.1))
     (either_true (eqb kind 1 && between least_samples Z most_samples) (eqb kind 2 && eqb Z month_samples) e)
+
+-- No number is right for what is no kind.
+pub no_kind : (kind Z : ℕ) → is_kind kind ≡ false → false ≡ right_number kind Z
+no_kind kind Z e =
+    let none = either_false (eqb kind 1) (eqb kind 2) e in
+    rw (none.0, none.1) refl
 
 -- Whether the bytes are the samples that the kind has to have.
 abbrev pub Right : (kind : ℕ) → List ℕ → Bool → Type 0

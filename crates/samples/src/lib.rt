@@ -9,6 +9,7 @@ ghost use Rattle.samples.specs.Samples.{sample_bytes, whole_sample, most_samples
 
 use std::error::Error;
 use std::{array, fmt};
+use waste::Kind;
 
 // The bytes of a sample.
 const BYTES: usize = 16;
@@ -63,14 +64,23 @@ impl fmt::Display for SamplesRefusal {
 
 impl Error for SamplesRefusal {}
 
+// Tells whether a year or a month has to have so many samples.
+#[tactic(auto, using(crate::proofs::Answer::no_kind))]
+fn is_enough(kind: u8, count: u64) -> bool
+    ensures { result ≡ right_number kind count }
+{
+    match Kind::of(kind) {
+        Some(Kind::Yearly) => numbers::is_between(LEAST_A_YEAR, count, MOST_A_YEAR),
+        Some(Kind::Monthly) => count == A_MONTH,
+        None => false,
+    }
+}
+
 // Tells whether so many bytes are the samples that a year or a month has to have.
 fn is_right_number(kind: u8, bytes: usize) -> bool
     ensures { result ≡ (right_number kind (bytes / sample_bytes) && eqb (bytes % sample_bytes) 0) }
 {
-    let count = (bytes / BYTES) as u64;
-    let year = (kind == waste::YEARLY) & numbers::is_between(LEAST_A_YEAR, count, MOST_A_YEAR);
-    let month = (kind == waste::MONTHLY) & (count == A_MONTH);
-    (year | month) & (bytes % BYTES == 0)
+    is_enough(kind, (bytes / BYTES) as u64) & (bytes % BYTES == 0)
 }
 
 // Answers the fractions of a sample.
