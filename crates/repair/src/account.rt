@@ -1,4 +1,5 @@
 // What is told on standard error: the account of a repair, and why there is none. A write that fails is passed over.
+use order::RepairRefusal;
 
 // Tells words as they stand.
 fn tell(to: &impl Print, words: &[u8]) {
@@ -11,24 +12,30 @@ fn tell_number(to: &impl Print, words: &[u8], n: u64) {
     let _ = to.print(n);
 }
 
-// Tells in words what a refusal means, nothing for 0.
-fn tell_refusal(to: &impl Print, refusal: u8) {
-    match refusal {
-        20 => tell(
+// Tells in words what a refusal means; for want of room, which the program lends, there are none.
+fn tell_refusal(to: &impl Print, why: RepairRefusal) {
+    match why {
+        RepairRefusal::NotAnOrder => tell(
             to,
             b": the order does not name each of the types 1 to 8 once",
         ),
-        21 => tell(to, b": the file is not a whole number of records"),
-        _ => (),
+        RepairRefusal::PartOfARecord => tell(to, b": the file is not a whole number of records"),
+        RepairRefusal::NoRoom => (),
     }
 }
 
 // Tells how a repair went: how many whole records the file has, how many bits of the report are set, and the refusal.
-pub(crate) fn tell_account(to: &impl Print, records: u64, changed: u64, refusal: u8) {
+pub(crate) fn tell_account(to: &impl Print, records: u64, repaired: Result<u64, RepairRefusal>) {
     tell_number(to, b"repair: ", records);
-    tell_number(to, b" records, ", changed);
-    tell_number(to, b" bits set, refusal ", refusal as u64);
-    tell_refusal(to, refusal);
+    tell_number(to, b" records, ", repaired.unwrap_or(0));
+    tell_number(
+        to,
+        b" bits set, refusal ",
+        repaired.map_or_else(RepairRefusal::number, |_| 0) as u64,
+    );
+    if let Err(why) = repaired {
+        tell_refusal(to, why);
+    }
     tell(to, b"\n");
 }
 
