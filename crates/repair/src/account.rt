@@ -1,4 +1,5 @@
 // What is told on standard error: the account of a repair, and why there is none. A write that fails is passed over.
+
 use order::RepairRefusal;
 
 // Tells words as they stand.
@@ -12,7 +13,7 @@ fn tell_number(to: &impl Print, words: &[u8], n: u64) {
     let _ = to.print(n);
 }
 
-// Tells in words what a refusal means; for want of room, which the program lends, there are none.
+// Tells in words why a file is not put right; of the rooms, which this program makes large enough, nothing.
 fn tell_refusal(to: &impl Print, why: RepairRefusal) {
     match why {
         RepairRefusal::NotAnOrder => tell(
@@ -26,13 +27,13 @@ fn tell_refusal(to: &impl Print, why: RepairRefusal) {
 
 // Tells how a repair went: how many whole records the file has, how many bits of the report are set, and the refusal.
 pub(crate) fn tell_account(to: &impl Print, records: u64, repaired: Result<u64, RepairRefusal>) {
+    let (changed, refusal) = match repaired {
+        Ok(changed) => (changed, 0),
+        Err(why) => (0, why.number()),
+    };
     tell_number(to, b"repair: ", records);
-    tell_number(to, b" records, ", repaired.unwrap_or(0));
-    tell_number(
-        to,
-        b" bits set, refusal ",
-        repaired.map_or_else(RepairRefusal::number, |_| 0) as u64,
-    );
+    tell_number(to, b" records, ", changed);
+    tell_number(to, b" bits set, refusal ", refusal as u64);
     if let Err(why) = repaired {
         tell_refusal(to, why);
     }

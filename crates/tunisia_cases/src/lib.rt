@@ -3,8 +3,6 @@
 #![tactic(auto)]
 
 ghost use Rattle.std.specs.Prelude.{◌≡◌, ◌+◌, ◌-◌, ◌*◌, ◌^◌, ◌≤◌, ◌<◌, length};
-ghost use Rattle.std.specs.Int.Signed.{mag};
-ghost use Rattle.tunisia.specs.Numbers.{numbers_of};
 
 use reductions::Stretch;
 use std::array;
@@ -50,22 +48,16 @@ fn entries_from(payload: &[u8], grams: usize, from: usize) -> [u64; ENTRIES]
     array::from_fn(|i| gram(payload, grams, from + i))
 }
 
-// Prints a signed number and a space; the least that there is has no number of its size.
-fn put_signed(rt: &impl Print, z: i64)
-    requires { mag z < 2 ^ 63 - 1 }
-{
+// Prints a signed number and a space.
+fn put_signed(rt: &impl Print, z: i64) {
     if z < 0 {
         print::text(rt, b"-");
-        print::number(rt, (0 - z) as u64, b' ');
-        return;
     }
-    print::number(rt, z as u64, b' ');
+    print::number(rt, z.unsigned_abs(), b' ');
 }
 
 // Prints an answer: a refused stretch has four zeros.
-fn put_report(rt: &impl Print, report: YearsReport)
-    requires { mag (numbers_of report).reduction < 2 ^ 63 - 1 }
-{
+fn put_report(rt: &impl Print, report: YearsReport) {
     match report.amounts {
         Ok(all) => {
             print::number(rt, 0, b' ');
@@ -82,11 +74,7 @@ fn put_report(rt: &impl Print, report: YearsReport)
         }
     }
     print::number(rt, report.years, b' ');
-    let refused = match report.refused {
-        Some(why) => why.number(),
-        None => 0,
-    };
-    print::number(rt, refused as u64, b'\n');
+    print::number(rt, refusal::number_or_zero(report.refused) as u64, b'\n');
 }
 
 // Prints the reduction of a file over the years of a case.

@@ -77,7 +77,7 @@ pub fn run(rt: &impl Print, payload: &[u8])
     let totals = &mut buffer[0..size];
     fill(totals, &payload[RUN_HEAD..end]);
     let ledger = ledger_cases::ledger_of(payload);
-    let outcome = yearly_totals::run_months(ledger, totals, &payload[end..], lent);
-    ledger_cases::put_outcome(rt, outcome);
+    let end_of_run = yearly_totals::run_months(ledger, totals, &payload[end..], lent);
+    ledger_cases::put_outcome(rt, end_of_run);
     put_lent(rt, lent, totals);
 }
