@@ -15,11 +15,7 @@ pub const RECORDS: u16 = 1200;
 fn rated(table: &[u32], rates: [u16; 8]) -> [u32; 8]
     ensures { result ≡ eight (λ t. at_rate table.now (slice_index rates t)) }
 {
-    let mut found = [0u32; 8];
-    for t in 0..8 {
-        found[t] = decay::at_rate(table, rates[t]);
-    }
-    found
+    std::array::from_fn(|t| decay::at_rate(table, rates[t]))
 }
 
 // Answers what a table has for the eight types in a climate. Each climate is written out, so that its rates are known before the
@@ -57,11 +53,7 @@ pub fn less(of: [u64; 8], by: [u64; 8]) -> [u64; 8]
     requires { (t : ℕ) → (t < 8 → slice_index by t ≤ slice_index_or «of» t 0) }
     ensures { result ≡ eight (λ t. slice_index_or «of» t 0 - slice_index by t) }
 {
-    let mut rest = [0u64; 8];
-    for t in 0..8 {
-        rest[t] = of[t] - by[t];
-    }
-    rest
+    std::array::from_fn(|t| of[t] - by[t])
 }
 
 // Tells whether T of place t is within what n records can bring, and made up of R and what was released. A sum that 64 bits do
@@ -77,28 +69,15 @@ fn is_within(n: u64, brought: u64, left: u64, released: u64, t: usize) -> bool
     if left > brought {
         return false;
     }
-    std::num::wrapping_add_u64(released, left) == brought
+    released.wrapping_add(left) == brought
 }
 
 // Tells whether there are no more records than a ledger takes, and every T is within what they can bring, and made up so.
-pub fn are_within<'a>(
-    n: u16,
-    brought: &'a [u64; 8],
-    left: &'a [u64; 8],
-    released: &'a [u64; 8],
-) -> bool
+pub fn are_within(n: u16, brought: &[u64; 8], left: &[u64; 8], released: &[u64; 8]) -> bool
     ensures { result ≡ (nat_le n most_records
         && every_of (λ t. within_of n (slice_index brought.now t) (slice_index left.now t) (slice_index released.now t) t) 8) }
 {
-    if n > RECORDS {
-        return false;
-    }
-    for t in 0..8 {
-        if !is_within(n as u64, brought[t], left[t], released[t], t) {
-            return false;
-        }
-    }
-    true
+    n <= RECORDS && (0..8).all(|t| is_within(n as u64, brought[t], left[t], released[t], t))
 }
 
 // Answers the sum over the eight types, in 64 bits; no sum of a sound ledger is wider.
@@ -106,8 +85,8 @@ pub fn total(of: [u64; 8]) -> u64
     ensures { result ≡ sum_of (λ t. slice_index_or «of» t 0) 8 % 2 ^ 64 }
 {
     let mut sum = 0u64;
-    for t in 0..8 {
-        sum = std::num::wrapping_add_u64(sum, of[t]);
+    for x in &of {
+        sum = sum.wrapping_add(*x);
     }
     sum
 }

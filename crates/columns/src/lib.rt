@@ -4,11 +4,11 @@
 
 mod refused;
 
-ghost use Rattle.std.specs.Prelude.{◌≡◌, IfErr};
+ghost use Rattle.std.specs.Prelude.{◌≡◌};
 ghost use Rattle.by_type.specs.Columns.{any_short, columns_of, filled_of};
 ghost use Rattle.releases.specs.Columns.{references};
 ghost use Rattle.columns.specs.Lent.{lent};
-ghost use Rattle.columns.specs.Refused.{numbers_of, IsFirstEngines};
+ghost use Rattle.columns.specs.Refused.{numbers_of};
 
 pub use refused::ColumnsRefusal;
 pub use releases::TypeColumns;
@@ -28,13 +28,12 @@ pub fn fill(
     figures: &mut [u64],
 ) -> Result<[u64; 8], ColumnsRefusal>
     ensures value { numbers_of result ≡ filled_of file.now (lent columns.old figures.old) }
-    ensures by_run { IfErr result IsFirstEngines }
     ensures same_references { references columns.new ≡ references columns.old }
     ensures columns_after { lent columns.new figures.new ≡ columns_of file.now (lent columns.old figures.old) }
 {
     let judged = stretches::whole_run(file);
-    if judged.refusal != 0 {
-        return Err(ColumnsRefusal::Record(judged.refusal));
+    if let Some(why) = judged.refusal {
+        return Err(ColumnsRefusal::Record(why));
     }
     let n = judged.accepted as usize;
     if is_short(n, columns, figures) {

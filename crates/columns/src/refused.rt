@@ -2,13 +2,14 @@
 ghost use Rattle.std.specs.Prelude.{◌≡◌};
 ghost use Rattle.columns.specs.Refused.{number_of};
 
+use refusal::Refusal;
 use std::error::Error;
 use std::fmt;
 
 #[derive(Clone, Copy, Debug, PartialEq, Eq)]
 pub enum ColumnsRefusal {
-    // The first engine refuses a record, with this number.
-    Record(u8),
+    // The first engine refuses a record.
+    Record(Refusal),
     // A column has fewer places than the file has records.
     Short,
 }
@@ -19,7 +20,7 @@ impl ColumnsRefusal {
         ensures { result ≡ number_of self }
     {
         match self {
-            ColumnsRefusal::Record(first) => first,
+            ColumnsRefusal::Record(why) => why.number(),
             ColumnsRefusal::Short => 26,
         }
     }
@@ -28,7 +29,7 @@ impl ColumnsRefusal {
 impl fmt::Display for ColumnsRefusal {
     fn fmt<W: fmt::Write>(&self, f: &mut fmt::Formatter<W>) -> fmt::Result {
         match self {
-            ColumnsRefusal::Record(first) => write!(f, "a record is refused with {first}"),
+            ColumnsRefusal::Record(why) => write!(f, "{why}"),
             ColumnsRefusal::Short => {
                 write!(f, "a column has fewer places than the file has records")
             }

@@ -9,16 +9,16 @@ ghost use Rattle.std.specs.Prelude.{◌≡◌};
 ghost use Rattle.decay.specs.Series.{entry_of};
 
 pub use table::{at_rate, table_of};
+use waste::Kind;
 
 // Answers the entry of a rate in thousandths, by year or by month, and 0 for any other rate or kind.
+#[tactic(auto, unfolding(crate::specs::Series::entry_of))]
 pub fn entry(kind: u8, rate: u16) -> u32
     ensures { result ≡ entry_of kind rate }
 {
-    if kind == waste::YEARLY {
-        return table::yearly(rate);
+    match Kind::of(kind) {
+        Some(Kind::Yearly) => table::yearly(rate),
+        Some(Kind::Monthly) => month::monthly(rate),
+        None => 0,
     }
-    if kind == waste::MONTHLY {
-        return month::monthly(rate);
-    }
-    0
 }

@@ -15,6 +15,7 @@ const TERMS: u64 = 5;
 const RATE_OVER: u64 = 12_000;
 
 // Answers what a bracket of the series comes to, by what the one within it has left, both of the whole.
+#[tactic(auto, unfolding(crate::specs::ByMonth::bracket_of))]
 fn bracket(rate: u64, n: u64, left: u64) -> u64
     requires { (rate ≤ 400) × (0 < n) × (n ≤ terms) × (left ≤ scale) }
     ensures { result ≡ bracket_of rate n left }
@@ -28,10 +29,8 @@ fn left_after_a_month(rate: u64) -> u64
     ensures { result ≡ left_after_month rate }
 {
     let mut left = SCALE;
-    let mut n = TERMS;
-    while n > 0 {
-        left = bracket(rate, n, left);
-        n -= 1;
+    for n in (0..TERMS).rev() {
+        left = bracket(rate, n + 1, left);
     }
     left
 }
@@ -40,13 +39,10 @@ fn left_after_a_month(rate: u64) -> u64
 pub(crate) fn monthly(rate: u16) -> u32
     ensures { result ≡ entry_of monthly rate }
 {
-    if rate == 0 {
-        return 0;
+    match rate {
+        1..=400 => (left_after_a_month(rate as u64) / PER_BILLIONTH) as u32,
+        _ => 0,
     }
-    if rate > 400 {
-        return 0;
-    }
-    (left_after_a_month(rate as u64) / PER_BILLIONTH) as u32
 }
 
 // Fills five more entries in: few enough for the compiler to unroll.

@@ -4,6 +4,7 @@ ghost use Rattle.waste.specs.Kind.{yearly};
 ghost use Rattle.decay.specs.Series.{entry_of, table_of, at_rate};
 
 use crate::month::monthly_table;
+use waste::Kind;
 
 const YEARLY: [u32; 400] = [
     999000499, 998001998, 997004495, 996007989, 995012479, 994017964, 993024442, 992031914,
@@ -66,35 +67,32 @@ fn yearly_table() -> [u32; 400]
 }
 
 // Answers the table of a kind, and only zeros for any other kind.
+#[tactic(auto, using(crate::proofs::Rule::no_table))]
 pub fn table_of(kind: u8) -> [u32; 400]
     ensures { result ≡ table_of kind }
 {
-    if kind == waste::YEARLY {
-        return yearly_table();
+    match Kind::of(kind) {
+        Some(Kind::Yearly) => yearly_table(),
+        Some(Kind::Monthly) => monthly_table(),
+        None => [0; 400],
     }
-    if kind == waste::MONTHLY {
-        return monthly_table();
-    }
-    [0; 400]
 }
 
 // Answers what a table has for a rate, its first number for rate 1, and 0 for a rate that it does not have.
 pub fn at_rate(table: &[u32], rate: u16) -> u32
     ensures { result ≡ at_rate table.now rate }
 {
-    if rate == 0 {
-        return 0;
-    }
-    if rate as usize > table.len() {
+    // tried: `checked_sub` and `get` keep both tables in the program, and a step takes 1855 instructions in place of 1263
+    if rate == 0 || rate as usize > table.len() {
         return 0;
     }
     table[rate as usize - 1]
 }
 
 // Answers the entry of a rate by year, and 0 for a rate that the table does not have.
+#[tactic(auto, using(crate::proofs::Rule::looked_up))]
 pub(crate) fn yearly(rate: u16) -> u32
     ensures { result ≡ entry_of yearly rate }
 {
-    let table = yearly_table();
-    at_rate(&table, rate)
+    at_rate(&yearly_table(), rate)
 }

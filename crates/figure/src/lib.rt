@@ -60,10 +60,7 @@ pub fn figure(factors: Factors, x0: u64) -> u64
 fn counted(brought: u64) -> u64
     ensures { (result ≡ cond (eqb brought 0) 0 1) × (result ≤ 1) }
 {
-    if brought == 0 {
-        return 0;
-    }
-    1
+    if brought == 0 { 0 } else { 1 }
 }
 
 // Answers n × T / 10^9 rounded down.
@@ -79,9 +76,9 @@ pub fn margins(n: u16, brought: [u64; 8]) -> u64
 {
     let mut types = 0u64;
     let mut shares = 0u64;
-    for t in 0..8 {
-        types += counted(brought[t]);
-        shares += share(n, brought[t]);
+    for of_type in &brought {
+        types += counted(*of_type);
+        shares += share(n, *of_type);
     }
     types * (n as u64 + 1) + shares
 }

@@ -21,7 +21,7 @@ ghost use Rattle.month_calls.specs.MonthCalls.{take_month_here, month_totals_her
 ghost use Rattle.landfill.specs.Entries.{cell_of};
 
 use columns::TypeColumns;
-use door::{Cell, Point};
+use door::Cell;
 use ledger::Ledger;
 use reductions::Stretch;
 use uncertainty::{FactorRefusal, Uncertainties};
@@ -80,11 +80,20 @@ pub fn landfill_totals(ledger: &[u8], stock: &mut u64, brought: &mut u64, releas
     ensures brought_after { brought.new ≡ (totals_of (ledger_of ledger.now)).brought }
     ensures released_after { released.new ≡ (totals_of (ledger_of ledger.now)).released }
 {
-    let totals = image::read(ledger).totals();
-    *stock = totals.stock;
-    *brought = totals.brought;
-    *released = totals.released;
-    totals.refusal
+    match image::read(ledger).totals() {
+        Ok(totals) => {
+            *stock = totals.stock;
+            *brought = totals.brought;
+            *released = totals.released;
+            0
+        }
+        Err(why) => {
+            *stock = 0;
+            *brought = 0;
+            *released = 0;
+            why.number()
+        }
+    }
 }
 
 // Answers 0 and the mass in kilograms that a cell names, or 10, 11 or 12 and mass 0; `filled` 0 is an empty cell.
@@ -302,14 +311,20 @@ pub fn landfill_point(figure: u64, bound: u64, at: &mut f64, low: &mut f64, high
     ensures low_after { low.new ≡ (charted_of figure bound).point.low }
     ensures high_after { high.new ≡ (charted_of figure bound).point.high }
 {
-    let (refusal, point) = match door::chart(figure, bound) {
-        Ok(point) => (0, point),
-        Err(why) => (why.number(), Point::default()),
-    };
-    *at = point.figure;
-    *low = point.low;
-    *high = point.high;
-    refusal
+    match door::chart(figure, bound) {
+        Ok(point) => {
+            *at = point.figure;
+            *low = point.low;
+            *high = point.high;
+            0
+        }
+        Err(why) => {
+            *at = 0.0;
+            *low = 0.0;
+            *high = 0.0;
+            why.number()
+        }
+    }
 }
 
 // Writes the listing of a file at the start of the text and answers 0; a text with under 90 bytes for every line that the file can

@@ -37,7 +37,8 @@ fn write_masses(record: &[u8], places: [usize; 8], out: &mut [u8], at: usize) ->
     bits
 }
 
-// Writes a record anew at a place of the output, and answers its byte of the report.
+// Writes a record anew at a place of the output, and answers its byte of the report. The output goes by place: of a buffer that is lent
+// as mutable chunks no contract of the library says what it ends as.
 pub(crate) fn write_record(record: &[u8], places: [usize; 8], out: &mut [u8], at: usize) -> u8
     requires { (length «record».now ≡ record_bytes) × (at + record_bytes ≤ length out.old) × ((t : _) → t < 8 → get_or places t 0 < 8) }
     ensures value { result ≡ eight_bits (is_other (λ t. get_or places t 0) «record».now) }

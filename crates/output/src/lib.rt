@@ -7,7 +7,7 @@ ghost use Rattle.record.specs.Fields.{record_bytes};
 ghost use Rattle.output.specs.Output.{output_head, five_of, written};
 
 // What an output record says: period, kind, climate, x0 in mg, figure and bound in grams CO2e, total R and total T in mg.
-#[derive(Clone, Copy)]
+#[derive(Clone, Copy, Debug, PartialEq, Eq)]
 pub struct Output {
     pub period: u16,
     pub kind: u8,

@@ -2,11 +2,16 @@
 use mathlib.Core.Path.{◌≡◌, refl, sym, ap, ◌∙◌}
 use mathlib.Core.List.{List, [], ◌∷◌}
 use Prim.Native.Nat.{ℕ, ◌+◌, ◌*◌, ◌≤◌}
+use native.Mathlib.Decide.{ℕ_discrete}
+use native.Mathlib.Omega.{arith}
+use borrow.Author.Tests.{eq-eqb, ne_eqb}
 use lib.ListN.{length, get_or}
 use Rattle.numbers.specs.Eight.{sum_of}
 use Rattle.numbers.specs.Lists.{Each}
+use Rattle.numbers.proofs.Fault.{first_up_to}
 use Rattle.record.specs.Fields.{record_bytes, factors_of}
 use Rattle.figure.specs.Figure.{figure_of}
+use Rattle.refusal.specs.Refusal.{faults_of}
 use Rattle.ledger.specs.Step.{fresh, x0_of}
 use Rattle.ledger.specs.Refusal.{sound, refusal_of}
 use Rattle.ledger.specs.Take.{accepted_of, take_of}
@@ -32,6 +37,25 @@ module _ (file : List ℕ) where
   pub ledger_end : (whole_run file).refusal ≡ 0 → (whole_run file).ledger ≡ ledger_after fresh (history file)
   unfolding whole_run run_of
   ledger_end e = ap (ledger_after fresh) (none_refused (history file) e).1
+
+-- No refusal of a record is above 17, so none is 26.
+refusal_most : (l : Ledger) (bytes : List ℕ) (room : ℕ) → refusal_of l bytes room ≤ 17
+unfolding refusal_of faults_of
+refusal_most l bytes room = first_up_to 17 (faults_of (sound l) l.n l.kind l.climate l.year bytes room) refl
+
+ending_most : (l : Ledger) (offers : List Offer) → ending (turns l offers) ≤ 17
+unfolding ending turns
+ending_most l [] = omega arith
+ending_most l (offer ∷ rest) =
+    let q = (take_of l offer.bytes offer.room).refusal in
+    elim (ℕ_discrete q 0) [
+      | yes z ↦ simp (eq-eqb q 0 z) (ending_most (take_of l offer.bytes offer.room).ledger rest)
+      | no z ↦ simp (ne_eqb q 0 z) (omega (arith, take_refusal l offer.bytes offer.room, refusal_most l offer.bytes offer.room))
+    ]
+
+pub run_most_17 : (file : List ℕ) → (whole_run file).refusal ≤ 17
+unfolding whole_run run_of
+run_most_17 file = ending_most fresh (in_turn (records_of file) (record_bytes * length (records_of file)))
 
 -- The figure of an accepted record comes from its eight releases added.
 abbrev pub FromReleases : ℕ → Turn → Type 0

@@ -21,12 +21,11 @@ use Rattle.by_type.specs.Alone.{HasPlaces}
 use Rattle.by_type.proofs.Alone.{release_in, figure_in, alone_is_ledgers}
 use Rattle.ledger.proofs.Accepted.{fresh_stock}
 use Rattle.by_type.specs.Columns.{column_entry, column_after, columns_after, any_short, columns_refusal, columns_of, filled_of}
-use Rattle.by_type.specs.declared.Filled.{Filled}
+use Rattle.by_type.specs.Columns.{Filled}
 use Rattle.by_type.proofs.Ledgers.{column_of_type, have_places, refused_first, refused_short, filled_well}
 use Rattle.promise_columns.specs.Sheets.{Lent, Sheets, sheets, nothing_filled, history, end_ledger, Long}
 use Rattle.promise_columns.specs.Promise.{ColumnsPromise}
-use Rattle.promise_columns.proofs.Histories.{none_then, none_if, accepted_all, ledger_end, FromReleases, history_added}
-use Rattle.by_type.proofs.Refused.{run_most_17}
+use Rattle.promise_columns.proofs.Histories.{none_then, none_if, accepted_all, ledger_end, run_most_17, FromReleases, history_added}
 use Rattle.promise_columns.proofs.Places.{each_place, entries_there, past_there, length_there, column_there}
 
 -- The test of the lengths: a short column is one that has fewer places.

@@ -21,7 +21,7 @@ pub fn is_share(captured: u64) -> bool
 
 // Correction factor, oxidation OX, methane share F and DOCf in percent, the site class, the warming potential GWP, and the captured
 // share f in hundredths of a percent; wide where they are multiplied, so that the compiler keeps each in a place of its own.
-#[derive(Clone, Copy)]
+#[derive(Clone, Copy, Debug, PartialEq, Eq)]
 pub struct Factors {
     pub factor: u64,
     pub oxidation: u64,

@@ -50,11 +50,7 @@ fn put_right(rt: &HostRuntime, output: Output, types: &[u8], file: &[u8])
     if repaired.is_ok() && !write_out(rt, output, &out[..bytes], &report[..records]) {
         return;
     }
-    let (changed, refusal) = match repaired {
-        Ok(changed) => (changed, 0),
-        Err(why) => (0, why.number()),
-    };
-    account::tell_account(&rt.stderr(), records as u64, changed, refusal);
+    account::tell_account(&rt.stderr(), records as u64, repaired);
 }
 
 // Reads the order and the file, and puts the file right; a file that was not read to its end is only told of.

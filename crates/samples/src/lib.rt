@@ -136,7 +136,7 @@ fn part(total: u64, fractions: [u32; 8], whole: u64) -> [u32; 8]
 }
 
 // Answers the masses of the eight types, or refuses: a total that is too large, a kind or a number of samples that is not right, a
-// sample that does not add up, in that order.
+// sample that does not add up, in that order. The kind is a byte, since a byte that is no kind is answered too, and only after the total.
 pub fn masses(kind: u8, total: u64, samples: &[u8]) -> Result<[u32; 8], SamplesRefusal>
     ensures { numbers_of result ≡ sorted_of kind total samples.now }
 {

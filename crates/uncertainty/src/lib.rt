@@ -12,7 +12,8 @@ use std::fmt;
 const FULL: u8 = 100;
 
 // The uncertainties of the masses (a), of DOC (b), DOCf (c), F (d), the methane correction factor (e) and the exponential term (g): in
-// whole percent, or c, d, e and g as codes that choose them.
+// whole percent, or c, d, e and g as codes that choose them. All are bytes, since any byte may be entered: a or b over 100 is looked at
+// before what is no code.
 #[derive(Clone, Copy)]
 pub struct Uncertainties {
     pub a: u8,

@@ -1,5 +1,7 @@
 -- Document 01, 'One record', byte 2: the kinds, 1 yearly and 2 monthly. Everything that goes by year and by month names them from here.
 use Rattle.std.specs.Prelude.{Bool, ◌||◌, ℕ, eqb}
+use Rattle.waste.specs.declared.Kind.{Kind}
+use Rattle.waste.specs.declared.Kind.TheVariants.{Yearly, Monthly}
 
 abbrev pub yearly : ℕ
 yearly = 1
@@ -15,3 +17,7 @@ is_yearly kind = eqb kind yearly
 
 abbrev pub is_monthly : ℕ → Bool
 is_monthly kind = eqb kind monthly
+
+abbrev pub code_of : Kind → ℕ
+code_of Yearly = yearly
+code_of Monthly = monthly

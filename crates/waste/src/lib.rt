@@ -1,10 +1,10 @@
 // The eight waste types by their fixed numbers, and the codes of kinds, climates and site classes: 'Waste types and their constants' of
 // document 01. The ledger looks its constants up here, the door and the samples their limit. A number that names nothing has 0.
-#![tactic(auto)]
+#![tactic(auto, using(std::proofs::lemmas::Bool::Decides::nat_tests))]
 
-ghost use Rattle.std.specs.Prelude.{◌∷◌, ◌≡◌, ◌+◌};
+ghost use Rattle.std.specs.Prelude.{◌∷◌, ◌≡◌, ◌+◌, false, MatchOption};
 ghost use Rattle.numbers.specs.Eight.{eight};
-ghost use Rattle.waste.specs.Kind.{is_kind};
+ghost use Rattle.waste.specs.Kind.{is_kind, code_of};
 ghost use Rattle.waste.specs.Waste.{domestic_of, industrial_of, carbon_of, is_climate, group_of, rate_of, is_class, correction_of};
 
 // The most of one type that a record or a cell can bring, and the largest total that samples part, in kilograms.
@@ -13,10 +13,17 @@ pub const MASS_LIMIT: u64 = 1_000_000_000;
 // The most organic dry matter that sludge can have, in percent.
 pub const MOST_DRY: u8 = 100;
 
-// The kinds of a record and of a run: by year, and by month.
+// The codes of the kinds.
 pub const YEARLY: u8 = 1;
 
 pub const MONTHLY: u8 = 2;
+
+// The kinds of a record and of a run: by year, and by month.
+#[derive(Clone, Copy, Debug, PartialEq, Eq)]
+pub enum Kind {
+    Yearly,
+    Monthly,
+}
 
 // The climates, and the site classes, by codes from 1 on.
 const CLIMATES: usize = 4;
@@ -86,11 +93,24 @@ fn group(waste: u8) -> [u16; CLIMATES + 1]
     }
 }
 
+impl Kind {
+    // Answers the kind of a code, which what is refused by 3, 5 or 15 need not have: so bytes, ledgers and calls hold codes.
+    pub fn of(code: u8) -> Option<Kind>
+        ensures { MatchOption result (is_kind code ≡ false) (λ kind. code_of kind ≡ code) }
+    {
+        match code {
+            1 => Some(Kind::Yearly),
+            2 => Some(Kind::Monthly),
+            _ => None,
+        }
+    }
+}
+
 // Tells whether a number is a kind's code.
 pub fn is_kind(kind: u8) -> bool
     ensures { result ≡ is_kind kind }
 {
-    (kind == YEARLY) | (kind == MONTHLY)
+    Kind::of(kind).is_some()
 }
 
 // Tells whether a number is a climate's code.
@@ -101,30 +121,18 @@ pub fn is_climate(climate: u8) -> bool
 }
 
 // Answers the yearly rate of a type in a climate, in thousandths.
+#[tactic(auto, unfolding(crate::specs::Waste::rate_of))]
 pub fn rate(waste: u8, climate: u8) -> u16
     ensures { result ≡ rate_of waste climate }
 {
-    let rates = group(waste);
-    if climate as usize > CLIMATES {
-        return 0;
-    }
-    rates[climate as usize]
+    group(waste).get(climate as usize).copied().unwrap_or(0)
 }
 
 // Answers the yearly rates of types 1 to 8 in a climate.
 pub fn rates(climate: u8) -> [u16; 8]
     ensures { result ≡ eight (λ t. rate_of (t + 1) climate) }
 {
-    [
-        rate(1, climate),
-        rate(2, climate),
-        rate(3, climate),
-        rate(4, climate),
-        rate(5, climate),
-        rate(6, climate),
-        rate(7, climate),
-        rate(8, climate),
-    ]
+    std::array::from_fn(|t| rate(t as u8 + 1, climate))
 }
 
 // Tells whether a number is a site class's code.

@@ -1,8 +1,10 @@
 // The factors that the months of one year share: request c of document 02. The ledger remembers them, and the refusals ask.
-#![tactic(auto)]
+#![tactic(auto, using(std::proofs::lemmas::Bool::Decides::nat_tests), unfolding(crate::specs::YearFactors::no_year, crate::specs::YearFactors::year_of, crate::specs::YearFactors::shares, crate::specs::YearFactors::remembered, crate::specs::YearFactors::sound_year))]
 
 ghost use Rattle.std.specs.Prelude.{◌≡◌};
 ghost use Rattle.year_factors.specs.YearFactors.{year_of, no_year, repeats, shares, remembered, year_in_range, sound_year};
+
+use waste::Kind;
 
 // The months of a year.
 const MONTHS: u16 = 12;
@@ -17,15 +19,10 @@ pub struct YearFactors {
 
 impl YearFactors {
     // Answers that none is remembered.
-    #[tactic(auto, unfolding(crate::specs::YearFactors::no_year))]
     pub fn none() -> YearFactors
         ensures { result ≡ no_year }
     {
-        YearFactors {
-            factor: 0,
-            captured: 0,
-            class: 0,
-        }
+        YearFactors::default()
     }
 
     // Answers those of a record.
@@ -39,37 +36,29 @@ impl YearFactors {
         }
     }
 
-    // Tells whether a record has the same; test by test, which takes fewer instructions than all three together.
+    // Tells whether a record has the same.
     fn is_repeated(self, bytes: &[u8]) -> bool
         ensures { result ≡ repeats self bytes.now }
     {
-        if record::factor(bytes) != self.factor {
-            return false;
-        }
-        if record::class(bytes) != self.class {
-            return false;
-        }
-        record::captured(bytes) == self.captured
+        YearFactors::of(bytes) == self
     }
 
     // Tells whether a record behind n others may come: it is yearly, or has the same, or begins a year.
     pub fn is_shared(self, n: u16, bytes: &[u8]) -> bool
         ensures { result ≡ shares n self bytes.now }
     {
-        if record::kind(bytes) != waste::MONTHLY {
+        if Kind::of(record::kind(bytes)) != Some(Kind::Monthly) {
             return true;
         }
-        if self.is_repeated(bytes) {
-            return true;
-        }
-        n % MONTHS == 0
+        self.is_repeated(bytes) || n % MONTHS == 0
     }
 
     // Answers what is remembered after a record behind n others.
     pub fn after(self, n: u16, bytes: &[u8]) -> YearFactors
         ensures { result ≡ remembered n self bytes.now }
     {
-        if (record::kind(bytes) == waste::MONTHLY) & (n % MONTHS == 0) {
+        let is_monthly = Kind::of(record::kind(bytes)) == Some(Kind::Monthly);
+        if is_monthly & (n % MONTHS == 0) {
             return YearFactors::of(bytes);
         }
         self
@@ -87,9 +76,10 @@ impl YearFactors {
     pub fn is_sound(self, n: u16, kind: u8) -> bool
         ensures { result ≡ sound_year n kind self }
     {
-        if (n > 0) & (kind == waste::MONTHLY) {
+        let is_monthly = Kind::of(kind) == Some(Kind::Monthly);
+        if (n > 0) & is_monthly {
             return self.is_in_range();
         }
-        (self.factor == 0) & (self.captured == 0) & (self.class == 0)
+        self == YearFactors::none()
     }
 }

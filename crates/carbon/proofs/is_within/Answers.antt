@@ -39,5 +39,5 @@ returns c =
     let a = c.args in
     let within : a.brought ≤ ceiling_of a.n a.t = rw (ceiling_is a.n a.t c.carbon.result c.carbon.ensures) at c.if-brought-ceiling.false in
     let high : leb a.brought (ceiling_of a.n a.t) ≡ true = le-leb a.brought (ceiling_of a.n a.t) within in
-    simp (c.wrapping_add_u64.ensures.value, high, le-leb a.left a.brought c.if-left-brought.false)
+    simp (high, le-leb a.left a.brought c.if-left-brought.false)
     (true_sum a.brought a.left a.released c.if-left-brought.false (search rules) (search rules))

@@ -1,8 +1,8 @@
 -- The public functions of `door`.
 use Rattle.door.proofs.cell.CellRefusal.number.Reads as cell_number
-use Rattle.door.proofs.cell.weigh.Reads as weigh
+use Rattle.door.proofs.weigh.Reads as weigh
 use Rattle.door.proofs.point.EdgeTooHigh.number.Reads as edge_number
-use Rattle.door.proofs.point.chart.Reads as chart
+use Rattle.door.proofs.chart.Reads as chart
 use Rattle.door.proofs.Cells.{one_mass}
 use Rattle.door.proofs.Points.{one_point}
 use Rattle.promise_answers.proofs.OneAnswer.{OneAnswer, by_equation}
