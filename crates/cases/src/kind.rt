@@ -7,7 +7,7 @@ use crate::error::CaseError;
 pub(crate) const LONGEST: usize = 65536;
 
 #[derive(Clone, Copy, Debug, PartialEq, Eq)]
-pub(crate) enum Kind {
+pub(crate) enum Case {
     Decay,
     Step,
     Run,
@@ -24,49 +24,49 @@ pub(crate) enum Kind {
     Codes,
 }
 
-impl TryFrom<u8> for Kind {
+impl TryFrom<u8> for Case {
     type Error = CaseError;
 
-    fn try_from(letter: u8) -> Result<Kind, CaseError> {
+    fn try_from(letter: u8) -> Result<Case, CaseError> {
         match letter {
-            b'd' => Ok(Kind::Decay),
-            b's' => Ok(Kind::Step),
-            b'r' => Ok(Kind::Run),
-            b'l' => Ok(Kind::Listing),
-            b'c' => Ok(Kind::Cell),
-            b'p' => Ok(Kind::Point),
-            b'm' => Ok(Kind::Masses),
-            b'o' => Ok(Kind::Order),
-            b't' => Ok(Kind::Reduction),
-            b'b' => Ok(Kind::Columns),
-            b'y' => Ok(Kind::YearlyStep),
-            b'w' => Ok(Kind::YearlyRun),
-            b'u' => Ok(Kind::Percentages),
-            b'k' => Ok(Kind::Codes),
+            b'd' => Ok(Case::Decay),
+            b's' => Ok(Case::Step),
+            b'r' => Ok(Case::Run),
+            b'l' => Ok(Case::Listing),
+            b'c' => Ok(Case::Cell),
+            b'p' => Ok(Case::Point),
+            b'm' => Ok(Case::Masses),
+            b'o' => Ok(Case::Order),
+            b't' => Ok(Case::Reduction),
+            b'b' => Ok(Case::Columns),
+            b'y' => Ok(Case::YearlyStep),
+            b'w' => Ok(Case::YearlyRun),
+            b'u' => Ok(Case::Percentages),
+            b'k' => Ok(Case::Codes),
             _ => Err(CaseError::UnknownKind),
         }
     }
 }
 
-impl Kind {
+impl Case {
     // Answers the least and the most bytes of a payload.
     fn lengths(self) -> (usize, usize)
         ensures { result.1 ≤ 65536 }
     {
         match self {
-            Kind::Decay => (3, 3),
-            Kind::Step => (ledger_cases::STEP_HEAD, LONGEST),
-            Kind::Run => (ledger_cases::RUN_HEAD, LONGEST),
-            Kind::Listing => (0, LONGEST),
-            Kind::Cell => (9, 9),
-            Kind::Point => (16, 16),
-            Kind::Masses => (9, LONGEST),
-            Kind::Order => (order_cases::HEAD, LONGEST),
-            Kind::Reduction => (tunisia_cases::HEAD, LONGEST),
-            Kind::Columns => (columns_cases::HEAD, LONGEST),
-            Kind::YearlyStep => (yearly_totals_cases::STEP_HEAD, LONGEST),
-            Kind::YearlyRun => (yearly_totals_cases::RUN_HEAD, LONGEST),
-            Kind::Percentages | Kind::Codes => {
+            Case::Decay => (3, 3),
+            Case::Step => (ledger_cases::STEP_HEAD, LONGEST),
+            Case::Run => (ledger_cases::RUN_HEAD, LONGEST),
+            Case::Listing => (0, LONGEST),
+            Case::Cell => (9, 9),
+            Case::Point => (16, 16),
+            Case::Masses => (9, LONGEST),
+            Case::Order => (order_cases::HEAD, LONGEST),
+            Case::Reduction => (tunisia_cases::HEAD, LONGEST),
+            Case::Columns => (columns_cases::HEAD, LONGEST),
+            Case::YearlyStep => (yearly_totals_cases::STEP_HEAD, LONGEST),
+            Case::YearlyRun => (yearly_totals_cases::RUN_HEAD, LONGEST),
+            Case::Percentages | Case::Codes => {
                 (uncertainty_cases::PAYLOAD, uncertainty_cases::PAYLOAD)
             }
         }
@@ -86,20 +86,20 @@ impl Kind {
     // Prints the line of a case.
     pub(crate) fn put_line(self, rt: &impl Print, payload: &[u8]) {
         match self {
-            Kind::Decay => ledger_cases::decay(rt, payload),
-            Kind::Step => ledger_cases::step(rt, payload),
-            Kind::Run => ledger_cases::run(rt, payload),
-            Kind::Listing => ledger_cases::listing(rt, payload),
-            Kind::Cell => door_cases::cell(rt, payload),
-            Kind::Point => door_cases::point(rt, payload),
-            Kind::Masses => samples_cases::masses(rt, payload),
-            Kind::Order => order_cases::repair(rt, payload),
-            Kind::Reduction => tunisia_cases::reduction(rt, payload),
-            Kind::Columns => columns_cases::fill(rt, payload),
-            Kind::YearlyStep => yearly_totals_cases::step(rt, payload),
-            Kind::YearlyRun => yearly_totals_cases::run(rt, payload),
-            Kind::Percentages => uncertainty_cases::by_percentages(rt, payload),
-            Kind::Codes => uncertainty_cases::by_codes(rt, payload),
+            Case::Decay => ledger_cases::decay(rt, payload),
+            Case::Step => ledger_cases::step(rt, payload),
+            Case::Run => ledger_cases::run(rt, payload),
+            Case::Listing => ledger_cases::listing(rt, payload),
+            Case::Cell => door_cases::cell(rt, payload),
+            Case::Point => door_cases::point(rt, payload),
+            Case::Masses => samples_cases::masses(rt, payload),
+            Case::Order => order_cases::repair(rt, payload),
+            Case::Reduction => tunisia_cases::reduction(rt, payload),
+            Case::Columns => columns_cases::fill(rt, payload),
+            Case::YearlyStep => yearly_totals_cases::step(rt, payload),
+            Case::YearlyRun => yearly_totals_cases::run(rt, payload),
+            Case::Percentages => uncertainty_cases::by_percentages(rt, payload),
+            Case::Codes => uncertainty_cases::by_codes(rt, payload),
         }
     }
 }

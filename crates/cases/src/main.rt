@@ -6,7 +6,7 @@ mod error;
 mod kind;
 
 use error::CaseError;
-use kind::{Kind, LONGEST};
+use kind::{Case, LONGEST};
 use std::io::Read;
 
 // Fills lent bytes from the input, or refuses an input that ends before they are full.
@@ -25,11 +25,11 @@ fn read_case(from: &mut impl Read, rt: &impl Print) -> Result<bool, CaseError> {
         5 => (),
         _ => return Err(CaseError::Truncated),
     }
-    let kind = Kind::try_from(header[0])?;
-    let length = kind.check(numbers::read::<4>(&header, 1) as usize)?;
+    let case = Case::try_from(header[0])?;
+    let length = case.check(numbers::read::<4>(&header, 1) as usize)?;
     let mut payload = [0u8; LONGEST];
     fill(from, &mut payload[..length])?;
-    kind.put_line(rt, &payload[..length]);
+    case.put_line(rt, &payload[..length]);
     Ok(true)
 }
 

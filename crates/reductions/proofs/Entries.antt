@@ -50,3 +50,7 @@ module _ (first last years : ℕ) (electricity fuel : List ℕ) (e : stretch_ref
       let low = leb-true 1 first tests.0 in
       let high = leb-true last years tests.1.1 in
       (omega (arith, eqb-true (length electricity) count counts.0), omega (arith, eqb-true (length fuel) count counts.1))
+
+  -- so the grams of either kind can be added
+  pub addable : years ≤ 1200 → ((grams_light electricity ≡ true) × (length electricity ≤ 1200)) × ((grams_light fuel ≡ true) × (length fuel ≤ 1200))
+  addable few = let count = entries_count few in ((entries_light.0, count.0), (entries_light.1, count.1))

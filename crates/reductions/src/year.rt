@@ -6,7 +6,8 @@ ghost use Rattle.reductions.specs.Year.{in_class, with_year};
 
 use record::Factors;
 
-// The site classes of the two figures: anaerobic managed for the reference, semi-aerobic managed for the project.
+// The site classes of the two figures: anaerobic managed for the reference, semi-aerobic managed for the project. Numbers, since they
+// stand in the place of a record's byte, as `Factors` holds it.
 const REFERENCE_CLASS: u8 = 1;
 
 const PROJECT_CLASS: u8 = 2;

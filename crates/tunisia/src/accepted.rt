@@ -25,7 +25,7 @@ pub struct Taken {
 }
 
 // Answers the refusal of a record in this mode, given its refusal in a run with room for its output, and its kind. The tests before 6
-// have the numbers up to 5.
+// have the numbers up to 5; by the enum's order 28 would come before them too.
 #[tactic(auto, using(refusal::proofs::Numbers::number_not_zero), unfolding(crate::specs::Walk::as_yearly))]
 fn as_yearly(refusal: Option<Refusal>, kind: u8) -> Option<Refusal>
     ensures { numbered result ≡ as_yearly (numbered refusal) (is_monthly kind) }
@@ -53,7 +53,7 @@ fn run_years(file: &[u8], stretch: Stretch) -> Taken
         sums: Sums::default(),
     };
     let mut at: usize = 0;
-    // the next place is that of a part's end, as in `stretches::whole_run`
+    // no range: the next place is the end of a stretch, as in `stretches::whole_run`
     while at < file.len() {
         let ran = stretches::run_stretch(ledger, file, at, &mut out);
         let end = stretches::stretch_end(file, at);

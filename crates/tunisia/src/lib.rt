@@ -32,7 +32,7 @@ pub struct YearsReport {
 }
 
 // Answers reference, project, reduction and bound over the years of a stretch of a file of yearly records, with the grams CO2e of
-// electricity and fuel of each of these years; or refuses the stretch.
+// electricity and fuel of each of these years; or refuses the stretch. The two lists stay apart, as a caller in C has them.
 pub fn reduction_over(
     file: &[u8],
     stretch: Stretch,

@@ -26,7 +26,7 @@ fn run_file(ledger: Ledger, totals: &mut Totals, records: &[u8], out: &mut [u8])
     let mut at: usize = 0;
     let mut accepted: u64 = 0;
     let mut work: u64 = 0;
-    // a year takes as many records as its run accepts, so the next place is no fixed step on
+    // no range: the next place is as far on as the year's run accepted
     while at < records.len() {
         let ran = run_year(ledger, totals, &records[at..], &mut out[at..]);
         let next = ran.ledger;
@@ -71,7 +71,12 @@ pub fn run_months(ledger: Ledger, totals: &mut [u8], records: &[u8], out: &mut [
 
 // Takes one monthly record: answers the ledger after it, its releases, figure and bound, adds it to its year's slot, and writes its output
 // record at the start of the output; or refuses it, and leaves the ledger, the totals and the output as they are.
-pub fn take_month(ledger: Ledger, totals: &mut [u8], bytes: &[u8], out: &mut [u8]) -> Result<Taken, Refusal>
+pub fn take_month(
+    ledger: Ledger,
+    totals: &mut [u8],
+    bytes: &[u8],
+    out: &mut [u8],
+) -> Result<Taken, Refusal>
     ensures value { answer_numbers ledger result ≡ take_month_of ledger totals.old bytes.now (length out.old) }
     ensures totals_after { totals.new ≡ month_totals ledger totals.old bytes.now (length out.old) }
     ensures out_after { out.new ≡ written_month ledger totals.old bytes.now out.old }

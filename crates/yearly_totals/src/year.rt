@@ -19,7 +19,7 @@ use year_slots::{MONTHS, Totals};
 const SMALL_SUM: u64 = 7000000000000000000;
 
 // Answers the refusal of a record, given its refusal by the plain step, its kind, and whether its slot refuses it. The tests before 6
-// have the numbers up to 5.
+// have the numbers up to 5; by the enum's order 28 would come before them too.
 #[tactic(auto, using(refusal::proofs::Numbers::number_not_zero), unfolding(crate::specs::YearRun::as_monthly))]
 fn as_monthly(refusal: Option<Refusal>, kind: u8, differs: bool) -> Option<Refusal>
     ensures { numbered result ≡ as_monthly (numbered refusal) (is_yearly kind) differs }

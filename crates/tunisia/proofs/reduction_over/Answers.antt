@@ -1,8 +1,7 @@
 -- The sums are those of the accepted years, and small; the grams of a stretch that is not refused are light and few.
 use mathlib.Core.Path.{◌≡◌, refl, sym}
-use Rattle.reductions.specs.Stretch.{stretch_refusal}
 use Rattle.reductions.proofs.Sizes.{signed_back}
-use Rattle.reductions.proofs.Entries.{entries_light, entries_count}
+use Rattle.reductions.proofs.Entries.{addable}
 use Rattle.reductions.proofs.Refusals.{number_some}
 use Rattle.tunisia.proofs.Answers.{refused_is, answered-is}
 use Rattle.tunisia.proofs.Ranges.{with_size}
@@ -15,21 +14,15 @@ returns-in-Err-clause-value c =
 
 pub all_grams-requires : goal.all_grams-requires
 all_grams-requires c =
-    let taken = c.accepted_years-accepted in
     let a = c.args in
-    let none : stretch_refusal a.stretch.first a.stretch.last taken.result.years a.electricity.now a.fuel.now ≡ 0 = sym c.in_default.ensures in (
-      (entries_light a.stretch.first a.stretch.last taken.result.years a.electricity.now a.fuel.now none).0,
-      (entries_count a.stretch.first a.stretch.last taken.result.years a.electricity.now a.fuel.now none taken.ensures.sums_fit.1).0,
-    )
+    let taken = c.accepted_years-accepted in
+    (addable a.stretch.first a.stretch.last taken.result.years a.electricity.now a.fuel.now (sym c.in_default.ensures) taken.ensures.sums_fit.1).0
 
 pub all_grams-requires-2 : goal.all_grams-requires-2
 all_grams-requires-2 c =
-    let taken = c.accepted_years-accepted in
     let a = c.args in
-    let none : stretch_refusal a.stretch.first a.stretch.last taken.result.years a.electricity.now a.fuel.now ≡ 0 = sym c.in_default.ensures in (
-      (entries_light a.stretch.first a.stretch.last taken.result.years a.electricity.now a.fuel.now none).1,
-      (entries_count a.stretch.first a.stretch.last taken.result.years a.electricity.now a.fuel.now none taken.ensures.sums_fit.1).1,
-    )
+    let taken = c.accepted_years-accepted in
+    (addable a.stretch.first a.stretch.last taken.result.years a.electricity.now a.fuel.now (sym c.in_default.ensures) taken.ensures.sums_fit.1).1
 
 pub returns : goal.returns
 returns c =
