@@ -15,6 +15,7 @@ use crate::year::{Walked, walk_over};
 use ledger::Ledger;
 use reductions::{Stretch, Sums};
 use refusal::Refusal;
+use waste::Kind;
 
 // What the years of the stretch add up to, how many years were accepted, and the refusal of the record after them, if any.
 #[derive(Clone, Copy)]
@@ -24,16 +25,24 @@ pub struct Taken {
     pub refused: Option<Refusal>,
 }
 
-// Answers the refusal of a record in this mode, given its refusal in a run with room for its output, and its kind. The tests before 6
-// have the numbers up to 5; by the enum's order 28 would come before them too.
+// Tells whether a code is that of a monthly record.
+#[tactic(auto, using(std::proofs::lemmas::Bool::Decides::nat_tests))]
+fn is_monthly(kind: u8) -> bool
+    ensures { result ≡ is_monthly kind }
+{
+    Kind::of(kind) == Some(Kind::Monthly)
+}
+
+// Answers the refusal of a record in this mode, given its refusal in a run with room for its output, and whether it is monthly. The
+// tests before 6 have the numbers up to 5; by the enum's order 28 would be one of them too.
 #[tactic(auto, using(refusal::proofs::Numbers::number_not_zero), unfolding(crate::specs::Walk::as_yearly))]
-fn as_yearly(refusal: Option<Refusal>, kind: u8) -> Option<Refusal>
-    ensures { numbered result ≡ as_yearly (numbered refusal) (is_monthly kind) }
+fn as_yearly(refusal: Option<Refusal>, monthly: bool) -> Option<Refusal>
+    ensures { numbered result ≡ as_yearly (numbered refusal) monthly }
 {
     let Some(why) = refusal else {
-        return (kind == waste::MONTHLY).then_some(Refusal::MonthlyRecord);
+        return monthly.then_some(Refusal::MonthlyRecord);
     };
-    if kind == waste::MONTHLY && why.number() > 5 {
+    if monthly && why.number() > 5 {
         return Some(Refusal::MonthlyRecord);
     }
     Some(why)
@@ -91,17 +100,19 @@ pub(crate) fn accepted_years(file: &[u8], stretch: Stretch) -> Taken
     ensures value { taken_numbers result ≡ taken_over stretch.first stretch.last (accepted_years file.now) (refusal_after file.now) }
     ensures sums_fit { (SumsFit result.sums) × (result.years ≤ most_records) }
 {
-    if record::kind(file) == waste::MONTHLY {
+    let kind = record::kind(file);
+    if is_monthly(kind) {
         return Taken {
             sums: Sums::default(),
             years: 0,
-            refused: as_yearly(first_refusal(file), waste::MONTHLY),
+            refused: as_yearly(first_refusal(file), true),
         };
     }
     let ran = run_years(file, stretch);
     let next = record::kind(&file[record::BYTES * ran.years as usize..]);
+    let next_monthly = is_monthly(next);
     Taken {
-        refused: as_yearly(ran.refused, next),
+        refused: as_yearly(ran.refused, next_monthly),
         ..ran
     }
 }

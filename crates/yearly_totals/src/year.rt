@@ -13,24 +13,33 @@ ghost use Rattle.yearly_totals.specs.YearRun.{as_monthly, slot_refuses, at_once,
 use ledger::Ledger;
 use refusal::Refusal;
 use run::RunEnd;
+use waste::Kind;
 use year_slots::{MONTHS, Totals};
 
 // Up to here no month of a year brings a sum above the limit.
 const SMALL_SUM: u64 = 7000000000000000000;
 
-// Answers the refusal of a record, given its refusal by the plain step, its kind, and whether its slot refuses it. The tests before 6
-// have the numbers up to 5; by the enum's order 28 would come before them too.
+// Tells whether a code is that of a yearly record.
+#[tactic(auto, using(std::proofs::lemmas::Bool::Decides::nat_tests))]
+fn is_yearly(kind: u8) -> bool
+    ensures { result ≡ is_yearly kind }
+{
+    Kind::of(kind) == Some(Kind::Yearly)
+}
+
+// Answers the refusal of a record, given its refusal by the plain step, whether it is yearly, and whether its slot refuses it. The
+// tests before 6 have the numbers up to 5; by the enum's order 28 would be one of them too.
 #[tactic(auto, using(refusal::proofs::Numbers::number_not_zero), unfolding(crate::specs::YearRun::as_monthly))]
-fn as_monthly(refusal: Option<Refusal>, kind: u8, differs: bool) -> Option<Refusal>
-    ensures { numbered result ≡ as_monthly (numbered refusal) (is_yearly kind) differs }
+fn as_monthly(refusal: Option<Refusal>, yearly: bool, differs: bool) -> Option<Refusal>
+    ensures { numbered result ≡ as_monthly (numbered refusal) yearly differs }
 {
     let Some(why) = refusal else {
-        if kind == waste::YEARLY {
+        if yearly {
             return Some(Refusal::YearlyRecord);
         }
         return differs.then_some(Refusal::DamagedTotals);
     };
-    if kind == waste::YEARLY && why.number() > 5 {
+    if yearly && why.number() > 5 {
         return Some(Refusal::YearlyRecord);
     }
     Some(why)
@@ -83,13 +92,14 @@ pub(crate) fn run_year(
 {
     let n = ledger.n;
     let kind = record::kind(records);
+    let yearly = is_yearly(kind);
     let refuses = slot_refuses(totals, n);
-    if refuses | (kind == waste::YEARLY) {
+    if refuses | yearly {
         let refusal = first_refusal(ledger, records, out.len());
         return RunEnd {
             ledger,
             accepted: 0,
-            refusal: as_monthly(refusal, kind, refuses),
+            refusal: as_monthly(refusal, yearly, refuses),
             work: 0,
         };
     }
@@ -99,8 +109,9 @@ pub(crate) fn run_year(
     let ran = run::run(ledger, part, out);
     year_slots::add_months(totals, n, out, ran.accepted);
     let next = record::kind(&part[record::BYTES * ran.accepted as usize..]);
+    let next_yearly = is_yearly(next);
     RunEnd {
-        refusal: as_monthly(ran.refusal, next, false),
+        refusal: as_monthly(ran.refusal, next_yearly, false),
         ..ran
     }
 }

@@ -50,19 +50,19 @@ rest_of_year l totals file out {end} {most} size some r k test m e answers write
       within = rw (answers, is) (fits_all l totals file (length out) size some goes).1;
     }
 
-pub returns-then-refuses-kind : goal.returns-then-refuses-kind
+pub returns-then-refuses-yearly : goal.returns-then-refuses-yearly
 unfolding outcome_of work_over totals_after out_of outputs
-returns-then-refuses-kind c =
+returns-then-refuses-yearly c =
     let a = c.args in
     let stops = year_refused a.ledger a.totals.now a.records.now (length a.out.now) (search rules) c.requires
-    (rw (← c.slot_refuses-refuses.ensures, ← c.kind-kind.ensures) c.if-refuses-kind.true) in
-    rw (stops, c.as_monthly.ensures, c.first_refusal-refusal.ensures, c.slot_refuses-refuses.ensures, c.kind-kind.ensures)
+    (rw (← c.slot_refuses-refuses.ensures, ← c.kind-kind.ensures, ← c.is_yearly-yearly.ensures) c.if-refuses-yearly.true) in
+    rw (stops, c.as_monthly.ensures, c.first_refusal-refusal.ensures, c.slot_refuses-refuses.ensures, c.is_yearly-yearly.ensures, c.kind-kind.ensures)
     (record { value = refl; totals_after = refl; out_after = refl })
 
 pub at_once-most-requires : goal.at_once-most-requires
 at_once-most-requires c =
     let a = c.args in
-    let goes = rw (c.slot_refuses-refuses.ensures, c.kind-kind.ensures) at c.if-refuses-kind.false in
+    let goes = rw (c.slot_refuses-refuses.ensures, c.is_yearly-yearly.ensures, c.kind-kind.ensures) at c.if-refuses-yearly.false in
     (has_slot a.ledger a.totals.now a.records.now (length a.out.now) (search rules) c.requires goes).0
 
 pub slice_bounds-part-end : goal.slice_bounds-part-end
@@ -73,31 +73,31 @@ slice_bounds-part-end c =
 pub add_months-requires : goal.add_months-requires
 add_months-requires c =
     let a = c.args in
-    let r = rest_of_year c.args.ledger c.args.totals.now c.args.records.now c.args.out.now (search rules) c.requires c.slot_refuses-refuses.ensures c.kind-kind.ensures c.if-refuses-kind.false c.at_once-most.ensures.0 c.min-end.ensures c.run-ran.ensures.value c.run-ran.ensures.out_after in
+    let r = rest_of_year c.args.ledger c.args.totals.now c.args.records.now c.args.out.now (search rules) c.requires c.slot_refuses-refuses.ensures c.kind-kind.ensures (rw c.is_yearly-yearly.ensures at c.if-refuses-yearly.false) c.at_once-most.ensures.0 c.min-end.ensures c.run-ran.ensures.value c.run-ran.ensures.out_after in
     let can = can_add a.ledger a.totals.now a.records.now (length a.out.now) r.size r.some r.goes a.out.now r.answers r.writes refl in
     record { count_bound = can.0; months_fit = can.1 }
 
 pub overflow_mul-ran : goal.overflow_mul-ran
 overflow_mul-ran c =
-    let r = rest_of_year c.args.ledger c.args.totals.now c.args.records.now c.args.out.now (search rules) c.requires c.slot_refuses-refuses.ensures c.kind-kind.ensures c.if-refuses-kind.false c.at_once-most.ensures.0 c.min-end.ensures c.run-ran.ensures.value c.run-ran.ensures.out_after in
+    let r = rest_of_year c.args.ledger c.args.totals.now c.args.records.now c.args.out.now (search rules) c.requires c.slot_refuses-refuses.ensures c.kind-kind.ensures (rw c.is_yearly-yearly.ensures at c.if-refuses-yearly.false) c.at_once-most.ensures.0 c.min-end.ensures c.run-ran.ensures.value c.run-ran.ensures.out_after in
     omega (arith, r.within, r.in_file, length-take-le c.min-end.result c.args.records.now r.in_file)
 
 pub slice_bounds-kind-count : goal.slice_bounds-kind-count
 slice_bounds-kind-count c =
-    let r = rest_of_year c.args.ledger c.args.totals.now c.args.records.now c.args.out.now (search rules) c.requires c.slot_refuses-refuses.ensures c.kind-kind.ensures c.if-refuses-kind.false c.at_once-most.ensures.0 c.min-end.ensures c.run-ran.ensures.value c.run-ran.ensures.out_after in
+    let r = rest_of_year c.args.ledger c.args.totals.now c.args.records.now c.args.out.now (search rules) c.requires c.slot_refuses-refuses.ensures c.kind-kind.ensures (rw c.is_yearly-yearly.ensures at c.if-refuses-yearly.false) c.at_once-most.ensures.0 c.min-end.ensures c.run-ran.ensures.value c.run-ran.ensures.out_after in
     r.within
 
 pub slice_bounds-kind-start : goal.slice_bounds-kind-start
 slice_bounds-kind-start c =
-    let r = rest_of_year c.args.ledger c.args.totals.now c.args.records.now c.args.out.now (search rules) c.requires c.slot_refuses-refuses.ensures c.kind-kind.ensures c.if-refuses-kind.false c.at_once-most.ensures.0 c.min-end.ensures c.run-ran.ensures.value c.run-ran.ensures.out_after in
+    let r = rest_of_year c.args.ledger c.args.totals.now c.args.records.now c.args.out.now (search rules) c.requires c.slot_refuses-refuses.ensures c.kind-kind.ensures (rw c.is_yearly-yearly.ensures at c.if-refuses-yearly.false) c.at_once-most.ensures.0 c.min-end.ensures c.run-ran.ensures.value c.run-ran.ensures.out_after in
     let w = r.within in search rules
 
 pub returns : goal.returns
 returns c =
     let a = c.args in
-    let r = rest_of_year c.args.ledger c.args.totals.now c.args.records.now c.args.out.now (search rules) c.requires c.slot_refuses-refuses.ensures c.kind-kind.ensures c.if-refuses-kind.false c.at_once-most.ensures.0 c.min-end.ensures c.run-ran.ensures.value c.run-ran.ensures.out_after in
+    let r = rest_of_year c.args.ledger c.args.totals.now c.args.records.now c.args.out.now (search rules) c.requires c.slot_refuses-refuses.ensures c.kind-kind.ensures (rw c.is_yearly-yearly.ensures at c.if-refuses-yearly.false) c.at_once-most.ensures.0 c.min-end.ensures c.run-ran.ensures.value c.run-ran.ensures.out_after in
     let at = record_bytes * c.run-ran.result.accepted in
     let p = take c.min-end.result a.records.now in
     let next = c.kind-next.ensures ∙ ap (λ (bs : List ℕ). kind_of bs) (take_all (length p - at) (drop at p) (simp length-drop (omega arith)) ∙ ap (drop at) r.part_is) in
     let ends = year_ends a.ledger a.totals.now a.records.now (length a.out.now) r.size r.some r.goes a.out.now r.answers r.writes c.add_months.ensures next in
-    record { value = rw c.as_monthly-2.ensures ends.0; totals_after = ends.1.0; out_after = ends.1.1 }
+    record { value = rw (c.as_monthly-2.ensures, c.is_yearly-next_yearly.ensures) ends.0; totals_after = ends.1.0; out_after = ends.1.1 }
