@@ -1,15 +1,11 @@
 -- Before record i the first i releases are there, and `stock` is what the records before it leave: `MidColumn`. Each record, and the end of the
 -- file, is a law of it.
 use mathlib.Core.Path.{◌≡◌, ◌∙◌}
-use Prim.Native.Nat.{ℕ, ◌*◌, ◌<◌}
-use mathlib.Core.List.{List}
+use Prim.Native.Nat.{◌*◌, ◌<◌}
 use native.Mathlib.Nat.{add-sub_cancel_left}
 use native.Mathlib.Omega.{arith}
-use lib.ListN.{length, get_or}
-use Rattle.numbers.specs.Eight.{eight}
-use Rattle.numbers.proofs.Eight.{eight_at}
+use lib.ListN.{length}
 use Rattle.record.specs.Fields.{record_bytes, kind_of, climate_of}
-use Rattle.carbon.specs.Carbon.{entry_at}
 use Rattle.carbon.proofs.Laws.{entry_small}
 use Rattle.by_type.specs.Alone.{left_alone}
 use Rattle.releases.proofs.MidColumn.{column_starts, held_small, entry_is, column_on, column_ends}
