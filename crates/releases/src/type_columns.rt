@@ -52,6 +52,7 @@ impl TypeColumns<'_> {
         ensures same_references { references self.new ≡ references self.old }
         ensures columns_after { contents self.new ≡ filled_from file.now n 0 (contents self.old) }
     {
+        // a call for each type, since a const argument is no loop's variable
         [
             fill_column::<0>(self.wood, file, n, entries[0]),
             fill_column::<1>(self.paper, file, n, entries[1]),
@@ -70,6 +71,7 @@ impl TypeColumns<'_> {
         requires { Each (HoldsAt i) 0 (contents self.now) }
         ensures { result ≡ across_at (contents self.now) i }
     {
+        // written out, since the proof of an iterator's sum over `all` didn't close
         self.wood[i]
             + self.paper[i]
             + self.food[i]

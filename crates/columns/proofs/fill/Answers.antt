@@ -10,7 +10,7 @@ use Rattle.refusal.proofs.Numbers.{number_some}
 use Rattle.run.specs.History.{whole_run, outcome_of}
 use Rattle.run.specs.Outcome.{Outcome}
 use Rattle.by_type.specs.Columns.{any_short}
-use Rattle.by_type.proofs.Ledgers.{file_whole, stocks_are, all_hold, nine_are, figures_is, refused_first, refused_short, filled_well, have_places}
+use Rattle.by_type.proofs.Ledgers.{file_whole, stocks_are, all_hold, nine_are, figures_is, refused_first, refused_short, filled_well}
 use Rattle.releases.specs.Columns.{contents}
 use Rattle.columns.specs.Lent.{lent}
 use Rattle.columns.proofs.fill.Goals as goal

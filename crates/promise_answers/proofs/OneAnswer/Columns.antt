@@ -8,7 +8,7 @@ use Rattle.columns.proofs.refused.ColumnsRefusal.number.Reads as number
 use Rattle.promise_answers.proofs.OneAnswer.{Settled, OneAnswer, by_equation, ◌&◌, both}
 
 pub fill_one : Settled fill.Learnt (λ κs r s. r & lent s.1.0.now s.1.1.0.now)
-fill_one κs a r r' s s' p q = both (one_filled r r' (p.0 ∙ sym q.0)) (p.2 ∙ sym q.2)
+fill_one κs a r r' s s' p q = both (one_filled r r' (p.0 ∙ sym q.0)) (p.1.1 ∙ sym q.1.1)
 
 pub number_one : OneAnswer number.Learnt
 number_one = by_equation (λ κs a r s p. p)
