@@ -54,7 +54,8 @@ impl Ledger {
         Ledger::default()
     }
 
-    // Tells whether the ledger is sound.
+    // Tells whether the ledger is sound. A run asks once: written into the run, the test costs its loop registers.
+    #[inline(never)]
     pub fn is_sound(&self) -> bool
         ensures { result ≡ sound self.now }
     {
