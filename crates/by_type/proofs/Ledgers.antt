@@ -3,23 +3,23 @@ use mathlib.Core.Path.{◌≡◌, refl, sym, ap, ◌∙◌}
 use mathlib.Core.Bool.{true, false, cond}
 use mathlib.Core.List.{List, [], ◌∷◌, ◌++◌}
 use Prim.Native.Nat.{ℕ, ◌+◌, ◌*◌, ◌≤◌, ◌<◌}
-use native.Mathlib.Nat.{zero-add}
+use native.Mathlib.Nat.{add-zero, zero-add}
 use native.Mathlib.Omega.{arith}
 use borrow.Author.Tests.{ltb-false, lt-ltb, ne_eqb}
 use lib.Dec.{ltb}
-use lib.ListN.{length, drop, get_or, replicate}
-use lib.Seq.{sets, take_at, get_or-take}
+use lib.ListN.{length, drop, get_or}
+use lib.Seq.{take_at, get_or-take}
 use Rattle.numbers.specs.Eight.{eight}
 use Rattle.numbers.specs.Lists.{Each}
 use Rattle.numbers.proofs.Eight.{eight_same, either_false}
 use Rattle.numbers.proofs.Lists.{each_at}
 use Rattle.record.specs.Fields.{record_bytes}
 use Rattle.ledger.specs.Step.{fresh, stock_at}
-use Rattle.run.specs.History.{records_of, whole_run}
+use Rattle.run.specs.History.{Turn, records_of, whole_run}
 use Rattle.ledger.proofs.Accepted.{fresh_stock}
 use Rattle.run.proofs.History.{Counts, records_join, run_counts, run_whole}
-use Rattle.by_type.specs.Columns.{nine, column_entry, column_after, columns_after, any_short, column_faults, columns_of, filled_of}
-use Rattle.by_type.specs.Alone.{HasPlaces, releases_alone, stock_alone, filled_from, four_stocks}
+use Rattle.by_type.specs.Columns.{column_entry, column_after, columns_after, any_short, column_faults, columns_of, filled_of}
+use Rattle.by_type.specs.Alone.{HasPlaces, releases_alone, stock_alone, filled_from}
 use Rattle.by_type.specs.Across.{HoldsReleases, figures_across}
 use Rattle.by_type.proofs.Alone.{release_in, figure_in, IsLedgers, alone_is_ledgers, releases_length, HoldFrom, figures_are_ledgers}
 
@@ -27,6 +27,13 @@ use Rattle.by_type.proofs.Alone.{release_in, figure_in, IsLedgers, alone_is_ledg
 pub column_of_type : (t : ℕ) → t < 8 → column_entry t ≡ release_in t
 unfolding column_entry
 column_of_type t place = λ i turn. cond (lt-ltb t 8 place i) (release_in t turn) (figure_in turn)
+
+after_more : (c : ℕ) (turns : List Turn) (columns : List (List ℕ)) (last : List ℕ)
+    → columns_after c turns (columns ++ (last ∷ [])) ≡ columns_after c turns columns ++ (column_after (c + length columns) turns last ∷ [])
+after_more c turns [] last = rw (add-zero c)
+after_more c turns (column ∷ rest) last =
+    let on : c + 1 + length rest ≡ c + length (column ∷ rest) = omega arith in
+    rw (after_more (c + 1) turns rest last, on)
 
 module _ (file : List ℕ) (none : (whole_run file).refusal ≡ 0) where
   counts : Counts fresh (records_of file) (whole_run file)
@@ -51,9 +58,8 @@ module _ (file : List ℕ) (none : (whole_run file).refusal ≡ 0) where
     unfolding whole_run
     stock_is t place = rw (fresh_stock t place) at (alone t place).stock
 
-    pub stocks_are : {half stocks : List ℕ} → half ≡ sets (replicate 8 0) 0 (four_stocks file 0) → stocks ≡ sets half 4 (four_stocks file 4)
-        → stocks ≡ eight (stock_at (whole_run file).ledger)
-    stocks_are e f = f ∙ rw e (eight_same (λ t. stock_alone t 0 (records_of file)) (stock_at (whole_run file).ledger) stock_is)
+    pub stocks_are : {stocks : List ℕ} → stocks ≡ eight (λ t. stock_alone t 0 (records_of file)) → stocks ≡ eight (stock_at (whole_run file).ledger)
+    stocks_are e = e ∙ eight_same (λ t. stock_alone t 0 (records_of file)) (stock_at (whole_run file).ledger) stock_is
 
     column_is : (t : ℕ) → t < 8 → (column : List ℕ) → releases_alone t 0 (records_of file) ++ drop n column ≡ column_after t (whole_run file).accepted column
     unfolding column_after whole_run
@@ -64,7 +70,7 @@ module _ (file : List ℕ) (none : (whole_run file).refusal ≡ 0) where
         take_at (releases_alone t 0 (records_of file)) (drop n column) n (releases_length t 0 (records_of file) ∙ (records_join n file [] (sym whole)).1)
 
     -- Columns that are filled hold their releases, and are the history's.
-    all_hold : (t : ℕ) (columns : List (List ℕ)) {now : List (List ℕ)} → now ≡ filled_from file n t columns → Each (HoldsReleases file n) t now
+    pub all_hold : (t : ℕ) (columns : List (List ℕ)) {now : List (List ℕ)} → now ≡ filled_from file n t columns → Each (HoldsReleases file n) t now
     all_hold t columns e = rw e (each t columns)
       where
         each : (t : ℕ) (columns : List (List ℕ)) → Each (HoldsReleases file n) t (filled_from file n t columns)
@@ -74,19 +80,6 @@ module _ (file : List ℕ) (none : (whole_run file).refusal ≡ 0) where
     columns_are : (t : ℕ) (columns : List (List ℕ)) → t + length columns ≤ 8 → filled_from file n t columns ≡ columns_after t (whole_run file).accepted columns
     columns_are t [] few = refl
     columns_are t (column ∷ rest) few = rw (column_is t (omega arith) column, columns_are (t + 1) rest (omega arith))
-
-    -- Two halves of four columns, filled, and the figures.
-    module _ (a b c d e f g h : List ℕ) {xs ys : List (List ℕ)}
-        (first : xs ≡ filled_from file n 0 (a ∷ b ∷ c ∷ d ∷ [])) (last : ys ≡ filled_from file n 4 (e ∷ f ∷ g ∷ h ∷ [])) where
-      pub halves_hold : Each (HoldsReleases file n) 0 (xs ++ ys)
-      halves_hold = all_hold 0 (a ∷ b ∷ c ∷ d ∷ e ∷ f ∷ g ∷ h ∷ []) {now = xs ++ ys} (rw (first, last))
-
-      pub nine_are : (k : List ℕ) {figures : List ℕ} → figures ≡ column_after 8 (whole_run file).accepted k
-          → xs ++ ys ++ (figures ∷ []) ≡ columns_after 0 (whole_run file).accepted (nine a b c d e f g h k)
-      nine_are k r =
-          let wood-on = first ∙ columns_are 0 (a ∷ b ∷ c ∷ d ∷ []) (omega arith) in
-          let garden-on = last ∙ columns_are 4 (e ∷ f ∷ g ∷ h ∷ []) (omega arith) in
-          rw (wood-on, garden-on, r)
 
     module _ (columns : List (List ℕ)) (size : length columns ≡ 8) (each : Each (HoldsReleases file n) 0 columns) where
       hold_from : HoldFrom columns 0 fresh (records_of file)
@@ -100,6 +93,12 @@ module _ (file : List ℕ) (none : (whole_run file).refusal ≡ 0) where
       unfolding column_after column_entry whole_run
       figures_is figures e =
           e ∙ rw (accepted_n, figures_are_ledgers columns 0 fresh (records_of file) (record_bytes * length (records_of file)) none hold_from)
+
+    -- The eight columns, filled, and the figures.
+    pub nine_are : (columns : List (List ℕ)) → length columns ≡ 8 → (last : List ℕ) {now : List (List ℕ)} {figures : List ℕ} → now ≡ filled_from file n 0 columns
+        → figures ≡ column_after 8 (whole_run file).accepted last → now ++ (figures ∷ []) ≡ columns_after 0 (whole_run file).accepted (columns ++ (last ∷ []))
+    nine_are columns size last filled figure =
+        rw (filled, columns_are 0 columns (omega (arith, size)), figure) (sym (after_more 0 (whole_run file).accepted columns last ∙ rw size))
 
 -- Where no column is short, each has a place for each record.
 pub have_places : (n t : ℕ) (columns : List (List ℕ)) → any_short n columns ≡ false → Each (HasPlaces n) t columns

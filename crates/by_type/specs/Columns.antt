@@ -5,7 +5,11 @@ use Rattle.numbers.specs.Eight.{eight}
 use Rattle.numbers.specs.Fault.{Fault, ◌when◌, first_of}
 use Rattle.ledger.specs.Step.{stock_at}
 use Rattle.run.specs.History.{Turn, whole_run}
-use Rattle.by_type.specs.declared.Filled.{Filled}
+
+-- The refusal, 0 if none, and the carbon left of the eight types after the last record, in mg.
+pub record Filled : Type 0 where
+  pub refusal : ℕ
+  pub stocks : List ℕ
 
 -- The columns of types 1 to 8, and the ninth.
 abbrev pub nine : {A : Type 0} → (wood paper food textiles garden inert domestic industrial figures : A) → List A

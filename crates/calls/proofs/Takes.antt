@@ -14,7 +14,7 @@ use Rattle.ledger.specs.Refusal.{refusal_of}
 use Rattle.ledger.specs.Take.{accepted_of, take_of, written_of, output_record}
 use Rattle.run.specs.History.{Run, run_of}
 use Rattle.ledger.specs.declared.book.Ledger.{Ledger}
-use Rattle.ledger.specs.declared.answer.Answer.{Answer}
+use Rattle.ledger.specs.Answer.{Answer}
 use Rattle.ledger.proofs.Accepted.{accepted_meets, has_room}
 use Rattle.ledger.proofs.Take.{taken, take_refusal, refused_writes_nothing}
 use Rattle.run.proofs.History.{run_stops, run_ends}

@@ -4,7 +4,7 @@ use Rattle.numbers.specs.Bytes.{bytes_of, row_of}
 use Rattle.record.specs.Fields.{record_bytes}
 use Rattle.ledger.specs.Take.{take_of, output_record}
 use Rattle.run.specs.History.{Offer, Run, records_of, in_turn, run_of}
-use Rattle.ledger.specs.declared.answer.Answer.{Answer}
+use Rattle.ledger.specs.Answer.{Answer}
 use Rattle.image.specs.Image.{image_of, ledger_of}
 
 -- The eight releases, x0, figure and bound of an answer, in 8 bytes each.

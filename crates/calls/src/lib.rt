@@ -3,27 +3,37 @@
 #![tactic(auto)]
 
 ghost use Rattle.std.specs.Prelude.{◌≡◌, length};
+ghost use Rattle.refusal.specs.Numbers.{numbered};
+ghost use Rattle.ledger.specs.declared.book.Ledger.{Ledger};
 ghost use Rattle.ledger.specs.Take.{take_of, written_of};
+ghost use Rattle.ledger.specs.Numbers.{answer_numbers};
 ghost use Rattle.run.specs.History.{out_of, work_over};
 ghost use Rattle.calls.specs.Calls.{answered, room_of, take_here, take_image, take_out, take_answer, run_here, run_image};
 
-use ledger::{Answer, Ledger};
+use ledger::{Ledger, Taken};
+use refusal::Refusal;
 
 // The bytes of an answer.
 const ANSWER_BYTES: usize = 88;
 
-// Writes the eight releases, x0, figure and bound of an answer. A buffer under 88 bytes keeps its values.
-pub fn write_answer(out: &mut [u8], answer: Answer)
-    ensures { out.new ≡ answered answer out.old }
+// Writes the eight releases, x0, figure and bound of an accepted record, and zeros for a refused one. A buffer under 88 bytes keeps
+// its values.
+pub fn write_answer(out: &mut [u8], taken: Result<Taken, Refusal>)
+    ensures { (l : Ledger) → out.new ≡ answered (answer_numbers l taken) out.old }
 {
     if out.len() < ANSWER_BYTES {
         return;
     }
-    let releases = answer.releases;
-    numbers::write_eight(out, 0, releases);
-    numbers::write::<8>(out, 64, answer.x0);
-    numbers::write::<8>(out, 72, answer.figure);
-    numbers::write::<8>(out, 80, answer.bound);
+    match taken {
+        Ok(taken) => {
+            let releases = taken.releases;
+            numbers::write_eight(out, 0, releases);
+            numbers::write::<8>(out, 64, taken.x0);
+            numbers::write::<8>(out, 72, taken.figure);
+            numbers::write::<8>(out, 80, taken.bound);
+        }
+        Err(_) => out[..ANSWER_BYTES].copy_from_slice(&[0; ANSWER_BYTES]),
+    }
 }
 
 // Answers the room for the output record: none where the answer has no room.
@@ -33,30 +43,16 @@ pub fn room(out: usize, answer: usize) -> usize
     if answer < ANSWER_BYTES { 0 } else { out }
 }
 
-// Takes one record as a run of one record, so that the step's code is in a program once; its x0, figure and bound are read back from
-// its output record.
-fn take_one(ledger: Ledger, bytes: &[u8], out: &mut [u8]) -> Answer
-    ensures value { result ≡ take_of ledger bytes.now (length out.old) }
+// Takes one record as a run of one record, so that the step's code is in a program once.
+fn take_one(ledger: Ledger, bytes: &[u8], out: &mut [u8]) -> Result<Taken, Refusal>
+    ensures value { answer_numbers ledger result ≡ take_of ledger bytes.now (length out.old) }
     ensures out_after { out.new ≡ written_of ledger bytes.now out.old }
 {
     if bytes.len() != Ledger::BYTES {
-        return ledger.refused(1);
+        return Err(Refusal::RecordLength);
     }
     let end = run::run(ledger, bytes, out);
-    if end.refusal != 0 {
-        return ledger.refused(end.refusal);
-    }
-    let after = end.ledger;
-    let released = after.released;
-    let before = ledger.released;
-    Answer {
-        ledger: after,
-        refusal: 0,
-        releases: carbon::less(released, before),
-        x0: numbers::read::<8>(out, 8),
-        figure: numbers::read::<8>(out, 16),
-        bound: numbers::read::<8>(out, 24),
-    }
+    end.taken(ledger, out)
 }
 
 // Takes one record: the image, the output and the answer are written, or the refusal's number comes back.
@@ -68,13 +64,14 @@ pub fn take(image: &mut [u8], record: &[u8], out: &mut [u8], answer: &mut [u8]) 
 {
     let room = room(out.len(), answer.len());
     let taken = take_one(image::read(image), record, &mut out[..room]);
-    if taken.refusal != 0 {
-        write_answer(answer, taken);
-        return taken.refusal;
-    }
-    image::write(image, taken.ledger);
     write_answer(answer, taken);
-    0
+    match taken {
+        Ok(taken) => {
+            image::write(image, taken.ledger);
+            0
+        }
+        Err(why) => why.number(),
+    }
 }
 
 // Takes the records of a file one after another, writes an output record for each accepted one, and leaves the image of the
@@ -98,5 +95,5 @@ pub fn run(
     if end.accepted > 0 {
         image::write(image, end.ledger);
     }
-    end.refusal
+    refusal::number_or_zero(end.refusal)
 }

@@ -1,24 +1,14 @@
--- Numbers and places as the report's lines have them.
-use mathlib.Core.Path.{◌≡◌, sym, ap, ◌∙◌}
+-- Places as the report's lines have them.
+use mathlib.Core.Path.{◌≡◌}
 use mathlib.Core.Bool.{true, false}
-use mathlib.Core.List.{List, [], ◌∷◌, ◌++◌, append-nil}
-use Prim.Native.Nat.{ℕ, ◌+◌, ◌/◌, ◌%◌, ◌^◌, ◌<◌}
+use mathlib.Core.List.{List, [], ◌∷◌, append-nil}
+use Prim.Native.Nat.{ℕ, ◌+◌, ◌/◌, ◌%◌, ◌^◌}
 use borrow.Author.Tests.{eq-eqb, ne_eqb}
 use native.Mathlib.Numerals.{add-one}
-use Rattle.std.specs.Fmt.{decimal}
-use Rattle.std.proofs.lemmas.Fmt.{decimal_by_steps}
 use Rattle.numbers.specs.Lists.{joined}
-use Rattle.line.specs.Line.{decimal_of}
 use Rattle.line.specs.Writing.{Writes}
-use Rattle.line.proofs.Decimal.{one_digit, more_digits}
 use Rattle.line.proofs.Writing.{write_on}
 use Rattle.changes.specs.Report.{is_set, place_text}
-
--- A number as std prints it is its plain decimal.
-pub plain_decimal : (n : ℕ) → n < 2 ^ 64 → decimal n ≡ decimal_of n
-plain_decimal =
-    decimal_by_steps (λ n digits. digits ≡ decimal_of n) (λ n h. sym (one_digit n h))
-    λ n front h e. ap (λ (digits : List ℕ). digits ++ ((48 + n % 10) ∷ [])) e ∙ sym (more_digits n h)
 
 -- The next place is written where its bit is set, and passed where it is not.
 module _ (bits t : ℕ) {line now : List ℕ} {at end : ℕ} (so_far : Writes line at (joined (place_text bits) t) now end) where

@@ -3,34 +3,14 @@
 #![tactic(auto)]
 
 ghost use Rattle.std.specs.Prelude.{◌+◌, ◌≤◌, length};
-ghost use Rattle.line.specs.Line.{decimal_of};
 ghost use Rattle.line.specs.Writing.{Writes};
 ghost use Rattle.changes.specs.Report.{places_text, record_text};
 
-use itoa::Buffer;
+use line::{put, put_number};
 use std::io;
 
 // The most bytes of a line: its words, a number of 20 digits, eight places and its end.
 const LINE: usize = 52;
-
-// Writes a word from a place on, and answers the place after it.
-fn put(line: &mut [u8], at: usize, word: &[u8]) -> usize
-    requires { at + length word.now ≤ length line.old }
-    ensures { Writes line.old at word.now line.new result }
-{
-    numbers::write_bytes(line, at, word);
-    at + word.len()
-}
-
-// Writes a number in plain decimal from a place on, and answers the place after it.
-fn put_number(line: &mut [u8], at: usize, n: u64) -> usize
-    requires { at + 20 ≤ length line.old }
-    ensures writes { Writes line.old at (decimal_of n) line.new result }
-    ensures upper_bound { result ≤ at + 20 }
-{
-    let mut digits = Buffer::new();
-    put(line, at, digits.format(n).as_bytes())
-}
 
 // Writes the places whose bits are set from a place of the line on, and answers the place after them.
 fn put_places(line: &mut [u8], at: usize, bits: u8) -> usize
@@ -69,12 +49,10 @@ fn print_record(rt: &impl Print, place: u64, bits: u8) -> io::Result<()> {
 
 // Prints a line for each record that changed, and tells whether that went well.
 pub fn print_report(rt: &impl Print, report: &[u8]) -> io::Result<()> {
-    let mut q: usize = 0;
-    while q < report.len() {
-        if report[q] != 0 {
-            print_record(rt, q as u64 + 1, report[q])?;
+    for (q, bits) in report.iter().enumerate() {
+        if *bits != 0 {
+            print_record(rt, q as u64 + 1, *bits)?;
         }
-        q += 1;
     }
     Ok(())
 }

@@ -10,8 +10,7 @@ use lib.Pow.{pow-add, pow_pos, pow_mono}
 use lib.Ieee.{Float, nan, inf, fin, binary64, odd, of_fields, of_bits}
 use lib.Ieee.Exact.{HasValue, odd_sign}
 use borrow.Author.Tests.{ne_eqb, le-leb, lt-leb, leb-true, leb-false}
-use Rattle.door.specs.Cell.{whole_of, refused_cell, accepted_cell, answer_to_number}
-use Rattle.door.specs.declared.cell.Numbers.{Numbers}
+use Rattle.door.specs.Cell.{Numbers, whole_of, refused_cell, accepted_cell, answer_to_number}
 use Rattle.door.proofs.Whole.{is_whole, has_fraction, above_limit}
 
 scaled : (v : Float) (s : Bool) (a c k : ℕ) → 0 < k → HasValue v s (a * k) (c * k) → HasValue v s a c

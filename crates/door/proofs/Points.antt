@@ -1,15 +1,17 @@
 -- What holds of every point.
+use mathlib.Core.Path.{◌≡◌, refl, sym, ap, ◌∙◌}
 use mathlib.Core.Bool.{Bool, true, false, cond}
-use Prim.Native.Nat.{ℕ, ◌+◌, ◌-◌, ◌≤◌}
+use Prim.Native.Nat.{ℕ, ◌+◌, ◌-◌, ◌≤◌, ◌<◌}
 use native.Mathlib.Omega.{arith}
-use lib.Dec.{T, leb, lit<}
+use lib.Dec.{T, eqb, leb, lit<}
 use lib.Ieee.{binary64, le, of_int}
 use lib.Ieee.Back.{round_whole}
 use lib.Ieee.Exact.{HasValue}
 use lib.Ieee.Order.{round_mono}
-use borrow.Author.Tests.{le-leb}
-use Rattle.door.specs.Point.{exact, float_of, point_of, charted_of}
-use Rattle.door.specs.declared.point.Charted.{Charted}
+use borrow.Author.Tests.{le-leb, lt-leb}
+use Rattle.std.proofs.Common.{Result, Ok, Err}
+use Rattle.door.specs.Point.{exact, float_of, point_of, Charted, charted_of, charted_as}
+use Rattle.door.specs.declared.point.EdgeTooHigh.{EdgeTooHigh}
 use Rattle.door.specs.declared.point.Point.{Point}
 
 -- The float of a whole number up to 2^53 is exactly that number: it has no minus, and is n / 1 in size.
@@ -47,3 +49,19 @@ edges_in_order figure bound = either (leb (figure + bound) exact) _ _ (in_order 
     either : (b : Bool) (x y : Charted) → InOrder x.point → InOrder y.point → InOrder (cond {A = Charted} b x y).point
     either true x y p q = p
     either false x y p q = q
+
+-- Where the point is refused, all three are 0.
+pub refused_zero : (figure bound : ℕ) → exact < figure + bound → (charted_of figure bound).point ≡ point_of 0 0
+refused_zero figure bound h = rw (lt-leb (figure + bound) exact h) refl
+
+-- The case of the answer that has these numbers: so two cases with the same numbers are one.
+case_of : Charted → Result Point EdgeTooHigh
+case_of n = cond (eqb n.refusal 13) (Err (record {})) (Ok n.point)
+
+same_case : (answer : Result Point EdgeTooHigh) → case_of (charted_as answer) ≡ answer
+unfolding case_of
+same_case (Ok point) = refl
+same_case (Err why) = refl
+
+pub one_point : (n : Charted) (a b : Result Point EdgeTooHigh) → charted_as a ≡ n → charted_as b ≡ n → a ≡ b
+one_point n a b p q = sym (same_case a) ∙ ap case_of (p ∙ sym q) ∙ same_case b

@@ -1,13 +1,17 @@
 -- Document 01, "The spreadsheet door", its first paragraph: what a cell is answered.
-use Rattle.std.specs.Prelude.{ℕ, ◌*◌, ◌/◌, ◌%◌, Bool, true, false, cond, leb, eqb, ℤ, pos, negsuc, neg_ℤ, Float}
+use Rattle.std.specs.Prelude.{ℕ, ◌*◌, ◌/◌, ◌%◌, Bool, true, false, cond, leb, eqb, ℤ, pos, negsuc, neg_ℤ, Float, Result, Ok, Err}
 use Rattle.std.specs.Float.{nan, inf, fin}
 use Rattle.std.specs.Float.Ieee.{up, down}
 use Rattle.waste.specs.Waste.{mass_limit}
 use Rattle.door.specs.declared.cell.Cell.{Cell}
 use Rattle.door.specs.declared.cell.Cell.TheVariants.{Empty, Number}
-use Rattle.door.specs.declared.cell.Numbers.{Numbers}
-use Rattle.door.specs.declared.cell.Weighed.{Weighed}
-use Rattle.door.specs.declared.cell.Weighed.TheVariants.{Mass, EmptyCell, NotWhole, OutOfRange}
+use Rattle.door.specs.declared.cell.CellRefusal.{CellRefusal}
+use Rattle.door.specs.declared.cell.CellRefusal.TheVariants.{EmptyCell, NotWhole, OutOfRange}
+
+-- An answer in numbers: the refusal's, 0 if none, and the mass in kilograms, 0 if refused.
+pub record Numbers : Type 0 where
+  pub refusal : ℕ
+  pub mass : ℕ
 
 -- A refused cell gives mass 0.
 abbrev pub refused_cell : ℕ → Numbers
@@ -17,12 +21,15 @@ refused_cell number = record { refusal = number; mass = 0 }
 abbrev pub accepted_cell : ℕ → Numbers
 accepted_cell mass = record { refusal = 0; mass = mass }
 
--- The numbers of each case of the answer.
-abbrev pub numbers_of : Weighed → Numbers
-numbers_of (Mass mass) = accepted_cell mass
-numbers_of EmptyCell = refused_cell 10
-numbers_of NotWhole = refused_cell 11
-numbers_of OutOfRange = refused_cell 12
+-- The number of each refusal, and the numbers of each case of the answer.
+abbrev pub refusal_number : CellRefusal → ℕ
+refusal_number EmptyCell = 10
+refusal_number NotWhole = 11
+refusal_number OutOfRange = 12
+
+abbrev pub numbers_of : Result ℕ CellRefusal → Numbers
+numbers_of (Ok mass) = accepted_cell mass
+numbers_of (Err why) = refused_cell (refusal_number why)
 
 -- The whole number that a float is, if it is one.
 pub data Whole : Type 0 where

@@ -5,5 +5,5 @@
 mod cell;
 mod point;
 
-pub use cell::{Cell, Numbers, Weighed, weigh};
-pub use point::{Charted, EXACT, Point, chart};
+pub use cell::{Cell, CellRefusal, weigh};
+pub use point::{EXACT, EdgeTooHigh, Point, chart};

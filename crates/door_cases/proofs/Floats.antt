@@ -3,8 +3,7 @@ use mathlib.Core.Bool.{Bool, true, false, cond, not}
 use Prim.Native.Nat.{ℕ, zero, suc, ◌+◌, ◌-◌, ◌*◌, ◌/◌, ◌%◌, ◌^◌, compare}
 use lib.Dec.{T, leb, ltb}
 use lib.Ieee.{Float, Format, prec, emax, low, binary64, size, nearest, is_nan, of_int, round, units, odd, inf}
-use Rattle.door.specs.Point.{exact, float_of, point_of, charted_of}
-use Rattle.door.specs.declared.point.Charted.{Charted}
+use Rattle.door.specs.Point.{exact, float_of, point_of, Charted, charted_of}
 use Rattle.door.specs.declared.point.Point.{Point}
 
 abbrev pub IsNumber : Float → Type 0

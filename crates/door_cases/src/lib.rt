@@ -5,7 +5,7 @@
 
 ghost use Rattle.std.specs.Prelude.{◌≡◌, ◌≤◌, length};
 
-use door::{Cell, Numbers};
+use door::{Cell, CellRefusal};
 
 // The bits of an infinity, and the sign's.
 const INFINITY: u64 = 0x7ff0_0000_0000_0000;
@@ -31,9 +31,13 @@ fn read_cell(payload: &[u8]) -> Cell
 }
 
 // Prints the answer to a cell.
-fn put_numbers(rt: &impl Print, answer: Numbers) {
-    print::number(rt, answer.refusal as u64, b' ');
-    print::number(rt, answer.mass as u64, b'\n');
+fn put_mass(rt: &impl Print, answer: Result<u32, CellRefusal>) {
+    let (refusal, mass) = match answer {
+        Ok(mass) => (0, mass),
+        Err(why) => (why.number(), 0),
+    };
+    print::number(rt, refusal as u64, b' ');
+    print::number(rt, mass as u64, b'\n');
 }
 
 // Prints a cell.
@@ -43,17 +47,28 @@ pub fn cell(rt: &impl Print, payload: &[u8])
     if payload.len() < 9 {
         return;
     }
-    put_numbers(rt, door::weigh(read_cell(payload)).numbers());
+    put_mass(rt, door::weigh(read_cell(payload)));
 }
 
-// Prints the point of a figure and its bound.
+// Prints a refusal's number, 0 if none, and the bits of a point's three floats.
+fn put_point(rt: &impl Print, refusal: u8, figure: u64, low: u64, high: u64) {
+    print::number(rt, refusal as u64, b' ');
+    print::bits(rt, figure, b' ');
+    print::bits(rt, low, b' ');
+    print::bits(rt, high, b'\n');
+}
+
+// Prints the point of a figure and its bound; a point that is refused is all 0.
 fn charted(rt: &impl Print, figure: u64, bound: u64) {
-    let answer = door::chart(figure, bound);
-    let point = answer.point;
-    print::number(rt, answer.refusal as u64, b' ');
-    print::bits(rt, f64::to_bits(point.figure), b' ');
-    print::bits(rt, f64::to_bits(point.low), b' ');
-    print::bits(rt, f64::to_bits(point.high), b'\n');
+    match door::chart(figure, bound) {
+        Ok(point) => {
+            let figure = f64::to_bits(point.figure);
+            let low = f64::to_bits(point.low);
+            let high = f64::to_bits(point.high);
+            put_point(rt, 0, figure, low, high);
+        }
+        Err(why) => put_point(rt, why.number(), 0, 0, 0),
+    }
 }
 
 // Prints a chart point.

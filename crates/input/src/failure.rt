@@ -10,12 +10,9 @@ const WORDS: usize = 320;
 fn words_of(text: &[u8]) -> usize
     ensures { result ≤ length text.now }
 {
-    for end in 0..text.len() {
-        if text[end] == 0 || text[end..].starts_with(b" (os error ") {
-            return end;
-        }
-    }
-    text.len()
+    (0..text.len())
+        .find(|end| text[*end] == 0 || text[*end..].starts_with(b" (os error "))
+        .unwrap_or(text.len())
 }
 
 // Writes what failed, as the caller names it, a colon and the system's words for the error.

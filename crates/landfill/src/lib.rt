@@ -10,7 +10,7 @@ ghost use Rattle.run.specs.History.{out_of, work_over};
 ghost use Rattle.ledger.specs.Take.{totals_of};
 ghost use Rattle.image.specs.Image.{image_bytes, fresh_left, ledger_of};
 ghost use Rattle.samples.specs.Samples.{sorted_of};
-ghost use Rattle.uncertainty.specs.Uncertainty.{entering, by_percentages, by_codes};
+ghost use Rattle.uncertainty.specs.Uncertainty.{entering, numbers_of, by_percentages, by_codes};
 ghost use Rattle.order.specs.Repair.{repaired_of, out_left, report_left};
 ghost use Rattle.tunisia.specs.Reduction.{reduction_of};
 ghost use Rattle.by_type.specs.Columns.{nine, columns_of, filled_of};
@@ -20,9 +20,11 @@ ghost use Rattle.yearly_totals.specs.Months.{totals_after};
 ghost use Rattle.month_calls.specs.MonthCalls.{take_month_here, month_totals_here, run_months_here};
 ghost use Rattle.landfill.specs.Entries.{cell_of};
 
+use columns::TypeColumns;
 use door::Cell;
 use ledger::Ledger;
-use uncertainty::Uncertainties;
+use reductions::Stretch;
+use uncertainty::{FactorRefusal, Uncertainties};
 
 // Answers the table entry of a rate in thousandths, kind 1 by year and 2 by month, and 0 for any other rate or kind.
 pub fn landfill_entry(kind: u8, rate: u16) -> u32
@@ -78,11 +80,20 @@ pub fn landfill_totals(ledger: &[u8], stock: &mut u64, brought: &mut u64, releas
     ensures brought_after { brought.new ≡ (totals_of (ledger_of ledger.now)).brought }
     ensures released_after { released.new ≡ (totals_of (ledger_of ledger.now)).released }
 {
-    let totals = image::read(ledger).totals();
-    *stock = totals.stock;
-    *brought = totals.brought;
-    *released = totals.released;
-    totals.refusal
+    match image::read(ledger).totals() {
+        Ok(totals) => {
+            *stock = totals.stock;
+            *brought = totals.brought;
+            *released = totals.released;
+            0
+        }
+        Err(why) => {
+            *stock = 0;
+            *brought = 0;
+            *released = 0;
+            why.number()
+        }
+    }
 }
 
 // Answers 0 and the mass in kilograms that a cell names, or 10, 11 or 12 and mass 0; `filled` 0 is an empty cell.
@@ -90,13 +101,17 @@ pub fn landfill_cell(filled: u8, kg: f64, mass: &mut u32) -> u8
     ensures refusal { result ≡ (answer_to (cell_of filled kg)).refusal }
     ensures mass_after { mass.new ≡ (answer_to (cell_of filled kg)).mass }
 {
-    let numbers = if filled == 0 {
-        door::weigh(Cell::Empty).numbers()
+    let cell = if filled == 0 {
+        Cell::Empty
     } else {
-        door::weigh(Cell::Number(kg)).numbers()
+        Cell::Number(kg)
     };
-    *mass = numbers.mass;
-    numbers.refusal
+    let (refusal, weighed) = match door::weigh(cell) {
+        Ok(weighed) => (0, weighed),
+        Err(why) => (why.number(), 0),
+    };
+    *mass = weighed;
+    refusal
 }
 
 // Answers 0 and the masses of types 1 to 8 in kilograms into which samples part a total, or 14, 15 or 16 and zeros.
@@ -104,10 +119,25 @@ pub fn landfill_masses(kind: u8, total: u64, samples: &[u8], masses: &mut [u32; 
     ensures refusal { result ≡ (sorted_of kind total samples.now).refusal }
     ensures masses_after { masses.new ≡ (sorted_of kind total samples.now).masses }
 {
-    let sorted = samples::masses(kind, total, samples);
-    let parts = sorted.masses;
-    *masses = parts;
-    sorted.refusal
+    let (refusal, sorted) = match samples::masses(kind, total, samples) {
+        Ok(sorted) => (0, sorted),
+        Err(why) => (why.number(), [0; 8]),
+    };
+    *masses = sorted;
+    refusal
+}
+
+// Answers 0 and puts a factor down, or the number of its refusal and 0.
+fn put_factor(answer: Result<u8, FactorRefusal>, factor: &mut u8) -> u8
+    ensures refusal { result ≡ (numbers_of answer).refusal }
+    ensures factor_after { factor.new ≡ (numbers_of answer).factor }
+{
+    let (refusal, found) = match answer {
+        Ok(found) => (0, found),
+        Err(why) => (why.number(), 0),
+    };
+    *factor = found;
+    refusal
 }
 
 // Answers 0 and the correction factor in percent for six uncertainties in percent, or 18 and factor 0.
@@ -116,8 +146,7 @@ pub fn landfill_factor(a: u8, b: u8, c: u8, d: u8, e: u8, g: u8, factor: &mut u8
     ensures factor_after { factor.new ≡ (by_percentages (entering a b c d e g)).factor }
 {
     let answer = Uncertainties { a, b, c, d, e, g }.by_percentages();
-    *factor = answer.factor;
-    answer.refusal
+    put_factor(answer, factor)
 }
 
 // Answers 0 and the correction factor in percent for uncertainties a and b in percent and four chosen by codes, or 18 or 19 and
@@ -127,8 +156,7 @@ pub fn landfill_factor_by_codes(a: u8, b: u8, c: u8, d: u8, e: u8, g: u8, factor
     ensures factor_after { factor.new ≡ (by_codes (entering a b c d e g)).factor }
 {
     let answer = Uncertainties { a, b, c, d, e, g }.by_codes();
-    *factor = answer.factor;
-    answer.refusal
+    put_factor(answer, factor)
 }
 
 // Rewrites a file with every mass at its type's place, reports which masses are not as they were, a byte for each record, and answers 0
@@ -145,9 +173,12 @@ pub fn landfill_repair(
     ensures report_after { report.new ≡ report_left order.now file.now out.old report.old }
     ensures changed_after { changed.new ≡ (repaired_of order.now file.now out.old report.old).changed }
 {
-    let repaired = order::repair(order, file, out, report);
-    *changed = repaired.changed;
-    repaired.refusal
+    let (refusal, bits) = match order::repair(order, file, out, report) {
+        Ok(bits) => (0, bits),
+        Err(why) => (why.number(), 0),
+    };
+    *changed = bits;
+    refusal
 }
 
 // Answers 0 and the reference, project, reduction and bound of the years first to last of a file, or 24 or 25 and zeros; also how many
@@ -173,15 +204,25 @@ pub fn landfill_tunisia(
     ensures years_after { years.new ≡ (reduction_of file.now first last electricity.now fuel.now).years }
     ensures refused_after { refused.new ≡ (reduction_of file.now first last electricity.now fuel.now).refused }
 {
-    let over = tunisia::reduction_over(file, first, last, electricity, fuel);
-    let less = over.reduction;
-    *reference = over.reference;
-    *project = over.project;
-    *reduction = less;
-    *bound = over.bound;
+    let over = tunisia::reduction_over(file, Stretch { first, last }, electricity, fuel);
     *years = over.years;
-    *refused = over.refused;
-    over.refusal
+    *refused = refusal::number_or_zero(over.refused);
+    match over.amounts {
+        Ok(all) => {
+            *reference = all.reference;
+            *project = all.project;
+            *reduction = all.reduction;
+            *bound = all.bound;
+            0
+        }
+        Err(why) => {
+            *reference = 0;
+            *project = 0;
+            *reduction = 0;
+            *bound = 0;
+            why.number()
+        }
+    }
 }
 
 // Answers 0, fills the columns of the eight types with their releases and the ninth with the figures, and sets the stocks after the last record;
@@ -203,12 +244,26 @@ pub fn landfill_columns(
     ensures columns_after { nine wood.new paper.new food.new textiles.new garden.new inert.new domestic.new industrial.new figures.new ≡ columns_of file.now (nine wood.old paper.old food.old textiles.old garden.old inert.old domestic.old industrial.old figures.old) }
     ensures stocks_after { stocks.new ≡ (filled_of file.now (nine wood.old paper.old food.old textiles.old garden.old inert.old domestic.old industrial.old figures.old)).stocks }
 {
-    let filled = columns::fill(
-        file, wood, paper, food, textiles, garden, inert, domestic, industrial, figures,
-    );
-    let left = filled.stocks;
-    *stocks = left;
-    filled.refusal
+    let mut columns = TypeColumns {
+        wood,
+        paper,
+        food,
+        textiles,
+        garden,
+        inert,
+        domestic,
+        industrial,
+    };
+    match columns::fill(file, &mut columns, figures) {
+        Ok(left) => {
+            *stocks = left;
+            0
+        }
+        Err(why) => {
+            *stocks = [0; 8];
+            why.number()
+        }
+    }
 }
 
 // Takes one monthly record and adds it to its year's slot: the image, the totals, the output and the answer are written, or the refusal's number
@@ -256,12 +311,20 @@ pub fn landfill_point(figure: u64, bound: u64, at: &mut f64, low: &mut f64, high
     ensures low_after { low.new ≡ (charted_of figure bound).point.low }
     ensures high_after { high.new ≡ (charted_of figure bound).point.high }
 {
-    let charted = door::chart(figure, bound);
-    let point = charted.point;
-    *at = point.figure;
-    *low = point.low;
-    *high = point.high;
-    charted.refusal
+    match door::chart(figure, bound) {
+        Ok(point) => {
+            *at = point.figure;
+            *low = point.low;
+            *high = point.high;
+            0
+        }
+        Err(why) => {
+            *at = 0.0;
+            *low = 0.0;
+            *high = 0.0;
+            why.number()
+        }
+    }
 }
 
 // Writes the listing of a file at the start of the text and answers 0; a text with under 90 bytes for every line that the file can
@@ -271,7 +334,14 @@ pub fn landfill_listing(records: &[u8], text: &mut [u8], written: &mut u64) -> u
     ensures text_after { text.new ≡ text_of records.now text.old }
     ensures written_after { written.new ≡ (listed_of records.now (length text.old)).length }
 {
-    let listed = lines::listing(records, text);
-    *written = listed.length as u64;
-    listed.refusal
+    match lines::listing(records, text) {
+        Ok(length) => {
+            *written = length as u64;
+            0
+        }
+        Err(why) => {
+            *written = 0;
+            why.number()
+        }
+    }
 }

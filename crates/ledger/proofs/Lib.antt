@@ -4,3 +4,4 @@ pub mod Accepted
 pub mod Settle
 pub mod Take
 pub mod Fits
+pub mod Numbers

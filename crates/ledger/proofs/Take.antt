@@ -11,7 +11,7 @@ use Rattle.ledger.specs.Refusal.{refusal_of}
 use Rattle.output.specs.Output.{output_of}
 use Rattle.ledger.specs.Take.{accepted_of, refused_of, take_of, written_of, output_fields, output_record}
 use Rattle.ledger.specs.declared.book.Ledger.{Ledger}
-use Rattle.ledger.specs.declared.answer.Answer.{Answer}
+use Rattle.ledger.specs.Answer.{Answer}
 
 -- The output record has 48 bytes.
 pub output_length : (a : Answer) → length (output_record a) ≡ 48

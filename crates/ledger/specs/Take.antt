@@ -8,9 +8,8 @@ use Rattle.output.specs.declared.Output.{Output}
 use Rattle.ledger.specs.Step.{brought_at, stock_at, released_at, release, x0_of, work_of, after}
 use Rattle.ledger.specs.Refusal.{refusal_of, sound}
 use Rattle.ledger.specs.declared.book.Ledger.{Ledger}
-use Rattle.ledger.specs.declared.answer.Answer.{Answer}
+use Rattle.ledger.specs.Answer.{Answer, Totals}
 use Rattle.ledger.specs.declared.answer.Entered.{Entered}
-use Rattle.ledger.specs.declared.answer.Totals.{Totals}
 
 -- Accepted: the ledger after the record, the eight releases, x0, figure and bound, with n and T as they stand after the record.
 unfoldable pub accepted_of : Ledger → List ℕ → Answer

@@ -2,12 +2,10 @@
 use crate::book::Ledger;
 use output::Output;
 
-// The ledger that comes back, the refusal (0 if none), and of an accepted record the eight releases in mg, their sum x0 in mg,
-// the figure and its bound in grams CO2e.
+// Of an accepted record: the ledger after it, the eight releases in mg, their sum x0 in mg, the figure and its bound in grams CO2e.
 #[derive(Clone, Copy)]
-pub struct Answer {
+pub struct Taken {
     pub ledger: Ledger,
-    pub refusal: u8,
     pub releases: [u64; 8],
     pub x0: u64,
     pub figure: u64,
@@ -22,10 +20,9 @@ pub struct Entered {
     pub work: u64,
 }
 
-// The refusal (3 for an unsound ledger, else 0), and the carbon left, brought in and released so far over all types, in mg.
-#[derive(Clone, Copy)]
-pub struct Totals {
-    pub refusal: u8,
+// The carbon left, brought in and released so far over all types, in mg.
+#[derive(Clone, Copy, Debug, PartialEq, Eq)]
+pub struct CarbonTotals {
     pub stock: u64,
     pub brought: u64,
     pub released: u64,

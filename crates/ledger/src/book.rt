@@ -7,15 +7,17 @@ ghost use Rattle.record.specs.Fields.{record_bytes, kind_of, climate_of};
 ghost use Rattle.carbon.specs.Carbon.{entry_at};
 ghost use Rattle.ledger.specs.Step.{fresh, decayed_at, period_of_all};
 ghost use Rattle.ledger.specs.Refusal.{sound, refusal_of};
-ghost use Rattle.ledger.specs.Take.{accepted_of, refused_of, entered_of, output_record, take_of, written_of, totals_of};
+ghost use Rattle.ledger.specs.Take.{accepted_of, entered_of, output_record, take_of, written_of, totals_of};
+ghost use Rattle.ledger.specs.Numbers.{answer_numbers, totals_numbers};
 
-use crate::answer::{Answer, Entered, Totals};
+use crate::answer::{CarbonTotals, Entered, Taken};
 use crate::period::{Decayed, Period, decay_work};
+use refusal::Refusal;
 use year_factors::YearFactors;
 
 // One site's ledger: the number n of accepted records, their kind and climate, what a monthly one remembers of its year, and for each
 // type the carbon brought in (T), the carbon left (R) and the carbon released so far, in whole milligrams. Place 0 of a list is type 1.
-#[derive(Clone, Copy)]
+#[derive(Clone, Copy, Debug, Default, PartialEq, Eq)]
 pub struct Ledger {
     pub n: u16,
     pub kind: u8,
@@ -30,34 +32,10 @@ pub struct Ledger {
 fn has_codes(n: u16, kind: u8, climate: u8) -> bool
     ensures { result ≡ cond (eqb n 0) (eqb kind 0 && eqb climate 0) (is_kind kind && is_climate climate) }
 {
-    if n == 0 {
-        return (kind == 0) & (climate == 0);
+    match n {
+        0 => (kind == 0) & (climate == 0),
+        _ => waste::is_kind(kind) & waste::is_climate(climate),
     }
-    waste::is_kind(kind) & waste::is_climate(climate)
-}
-
-// Tells whether a ledger is sound, from its fields; the lists are lent, so that a run copies no ledger for the question.
-pub fn are_sound<'a>(
-    n: u16,
-    kind: u8,
-    climate: u8,
-    year: YearFactors,
-    brought: &'a [u64; 8],
-    left: &'a [u64; 8],
-    released: &'a [u64; 8],
-) -> bool
-    ensures { result ≡ sound (record {
-      n = n;
-      kind = kind;
-      climate = climate;
-      year = year;
-      brought = brought.now;
-      stock = left.now;
-      released = released.now;
-    }) }
-{
-    let remembers = year.is_sound(n, kind);
-    has_codes(n, kind, climate) & carbon::are_within(n, brought, left, released) & remembers
 }
 
 impl Ledger {
@@ -69,34 +47,21 @@ impl Ledger {
     pub const MASS_LIMIT: u64 = waste::MASS_LIMIT;
 
     // Answers a ledger with no records.
+    #[tactic(auto, unfolding(crate::specs::Step::fresh, year_factors::specs::YearFactors::no_year))]
     pub fn fresh() -> Ledger
         ensures { result ≡ fresh }
     {
-        Ledger {
-            n: 0,
-            kind: 0,
-            climate: 0,
-            year: YearFactors::none(),
-            brought: [0; 8],
-            stock: [0; 8],
-            released: [0; 8],
-        }
+        Ledger::default()
     }
 
     // Tells whether the ledger is sound.
-    pub fn is_sound(self) -> bool
-        ensures { result ≡ sound self }
+    pub fn is_sound(&self) -> bool
+        ensures { result ≡ sound self.now }
     {
-        let year = self.year;
-        are_sound(
-            self.n,
-            self.kind,
-            self.climate,
-            year,
-            &self.brought,
-            &self.stock,
-            &self.released,
-        )
+        let remembers = self.year.is_sound(self.n, self.kind);
+        has_codes(self.n, self.kind, self.climate)
+            & carbon::are_within(self.n, &self.brought, &self.stock, &self.released)
+            & remembers
     }
 
     // Decays one type: answers what place t has after an accepted record, given the table entries of its kind and climate.
@@ -154,12 +119,15 @@ impl Ledger {
         ensures out_after { out.new ≡ output_record (accepted_of self bytes.now) ++ drop record_bytes out.old }
     {
         let year = self.year.after(self.n, bytes);
-        let all = self.decay_all(entries, bytes);
-        let brought = all.brought;
-        let stock = all.stock;
+        let Period {
+            brought,
+            stock,
+            x0,
+            work,
+        } = self.decay_all(entries, bytes);
         let released = carbon::less(brought, stock);
         let n = self.n + 1;
-        let says = figure::filed(n, bytes, all.x0, all.work, brought, stock);
+        let says = figure::filed(n, bytes, x0, work, brought, stock);
         output::write(out, says);
         let ledger = Ledger {
             n,
@@ -170,83 +138,50 @@ impl Ledger {
             stock,
             released,
         };
-        Entered {
-            ledger,
-            says,
-            work: all.work,
-        }
-    }
-
-    // Answers that a record is refused by a number; the ledger comes back as it is.
-    pub fn refused(self, refusal: u8) -> Answer
-        ensures { result ≡ refused_of self refusal }
-    {
-        Answer {
-            ledger: self,
-            refusal,
-            releases: [0; 8],
-            x0: 0,
-            figure: 0,
-            bound: 0,
-        }
+        Entered { ledger, says, work }
     }
 
     // Takes one record: answers the ledger after it, its releases, figure and bound, and writes its output record at the start
-    // of the output; or refuses it by number, and leaves the ledger and the output as they are.
-    pub fn take(self, bytes: &[u8], out: &mut [u8]) -> Answer
-        ensures value { result ≡ take_of self bytes.now (length out.old) }
+    // of the output; or why it refuses the record, and leaves the output as it is.
+    pub fn take(self, bytes: &[u8], out: &mut [u8]) -> Result<Taken, Refusal>
+        ensures value { answer_numbers self result ≡ take_of self bytes.now (length out.old) }
         ensures out_after { out.new ≡ written_of self bytes.now out.old }
     {
         let good = self.is_sound();
-        let year = self.year;
         let early = refusal::early(
             self.n,
             self.kind,
             self.climate,
-            year,
+            self.year,
             good,
             bytes,
             out.len(),
         );
-        let refusal = refusal::with_masses(early, bytes);
-        if refusal != 0 {
-            return self.refused(refusal);
+        if let Some(why) = refusal::with_masses(early, bytes) {
+            return Err(why);
         }
         let entries = carbon::entries(record::kind(bytes), record::climate(bytes));
-        let entered = self.enter(entries, bytes, out);
-        let after = entered.ledger;
-        let released = after.released;
-        let before = self.released;
-        Answer {
-            ledger: after,
-            refusal: 0,
-            releases: carbon::less(released, before),
-            x0: entered.says.x0,
-            figure: entered.says.figure,
-            bound: entered.says.bound,
-        }
+        let Entered { ledger, says, .. } = self.enter(entries, bytes, out);
+        Ok(Taken {
+            ledger,
+            releases: carbon::less(ledger.released, self.released),
+            x0: says.x0,
+            figure: says.figure,
+            bound: says.bound,
+        })
     }
 
-    // Answers the carbon left, brought in and released so far over all types; an unsound ledger is refused with 3.
-    pub fn totals(self) -> Totals
-        ensures { result ≡ totals_of self }
+    // Answers the carbon left, brought in and released so far over all types, or refuses an unsound ledger.
+    pub fn totals(self) -> Result<CarbonTotals, Refusal>
+        ensures { totals_numbers result ≡ totals_of self }
     {
         if !self.is_sound() {
-            return Totals {
-                refusal: 3,
-                stock: 0,
-                brought: 0,
-                released: 0,
-            };
+            return Err(Refusal::UnsoundLedger);
         }
-        let stock = self.stock;
-        let brought = self.brought;
-        let released = self.released;
-        Totals {
-            refusal: 0,
-            stock: carbon::total(stock),
-            brought: carbon::total(brought),
-            released: carbon::total(released),
-        }
+        Ok(CarbonTotals {
+            stock: carbon::total(self.stock),
+            brought: carbon::total(self.brought),
+            released: carbon::total(self.released),
+        })
     }
 }

@@ -6,5 +6,5 @@ mod answer;
 mod book;
 mod period;
 
-pub use answer::{Answer, Entered, Totals};
-pub use book::{Ledger, are_sound};
+pub use answer::{CarbonTotals, Entered, Taken};
+pub use book::Ledger;

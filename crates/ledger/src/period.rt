@@ -24,5 +24,5 @@ pub struct Period {
 pub(crate) fn decay_work(held: u64) -> u64
     ensures { result ≡ one (ltb 0 held) }
 {
-    if held > 0 { 1 } else { 0 }
+    (held > 0) as u64
 }

@@ -5,10 +5,10 @@
 
 ghost use Rattle.std.specs.Prelude.{◌≡◌, ◌≤◌, length, take};
 ghost use Rattle.image.specs.Image.{image_bytes, ledger_of};
-ghost use Rattle.lines.specs.Listing.{most_text};
 
-use ledger::{Answer, Ledger};
-use run::Outcome;
+use ledger::{Ledger, Taken};
+use refusal::Refusal;
+use run::RunEnd;
 
 // What stands ahead of a step's record, and of a run's records: the image, and the room in 2 bytes or in 4.
 pub const STEP_HEAD: usize = image::BYTES + 2;
@@ -19,10 +19,10 @@ pub const RUN_HEAD: usize = image::BYTES + 4;
 pub fn decay(rt: &impl Print, payload: &[u8])
     ensures { result ≡ tt }
 {
-    if payload.len() < 3 {
+    let [kind, low, high, ..] = payload else {
         return;
-    }
-    let entry = decay::entry(payload[0], numbers::read::<2>(payload, 1) as u16);
+    };
+    let entry = decay::entry(*kind, u16::from_le_bytes([*low, *high]));
     print::number(rt, entry as u64, b'\n');
 }
 
@@ -36,37 +36,44 @@ pub fn ledger_of(payload: &[u8]) -> Ledger
 
 // Prints the 30 numbers of a ledger with a space after each.
 fn put_ledger(rt: &impl Print, ledger: Ledger) {
-    let brought = ledger.brought;
-    let stock = ledger.stock;
-    let released = ledger.released;
     let year = ledger.year;
-    print::three(
-        rt,
+    let numbers = [
         ledger.n as u64,
         ledger.kind as u64,
         ledger.climate as u64,
-    );
-    print::three(
-        rt,
         year.factor as u64,
         year.class as u64,
         year.captured as u64,
-    );
-    print::eight(rt, brought);
-    print::eight(rt, stock);
-    print::eight(rt, released);
+    ];
+    print::spaced(rt, &numbers);
+    print::spaced(rt, &ledger.brought);
+    print::spaced(rt, &ledger.stock);
+    print::spaced(rt, &ledger.released);
 }
 
-// Prints the numbers of a step's answer with a space after each.
-pub fn put_answer(rt: &impl Print, answer: Answer)
+// Answers what a step says that took nothing.
+fn nothing_taken(ledger: Ledger) -> Taken {
+    Taken {
+        ledger,
+        releases: [0; 8],
+        x0: 0,
+        figure: 0,
+        bound: 0,
+    }
+}
+
+// Prints the numbers of a step's answer with a space after each; of a refused one the ledger before it and zeros.
+pub fn put_answer(rt: &impl Print, before: Ledger, answer: Result<Taken, Refusal>)
     ensures { result ≡ tt }
 {
-    let ledger = answer.ledger;
-    let releases = answer.releases;
-    print::number(rt, answer.refusal as u64, b' ');
-    put_ledger(rt, ledger);
-    print::eight(rt, releases);
-    print::three(rt, answer.x0, answer.figure, answer.bound);
+    let (refusal, taken) = match answer {
+        Ok(taken) => (0, taken),
+        Err(why) => (why.number(), nothing_taken(before)),
+    };
+    print::number(rt, refusal as u64, b' ');
+    put_ledger(rt, taken.ledger);
+    print::spaced(rt, &taken.releases);
+    print::spaced(rt, &[taken.x0, taken.figure, taken.bound]);
 }
 
 // Prints one step, with the room that the case asks for.
@@ -79,18 +86,19 @@ pub fn step(rt: &impl Print, payload: &[u8])
     let mut out = print::buffer();
     let room = numbers::read::<2>(payload, image::BYTES) as usize;
     let lent = &mut out[0..room];
-    let answer = ledger_of(payload).take(&payload[STEP_HEAD..], lent);
-    put_answer(rt, answer);
+    let ledger = ledger_of(payload);
+    let answer = ledger.take(&payload[STEP_HEAD..], lent);
+    put_answer(rt, ledger, answer);
     print::bytes(rt, lent, b'\n');
 }
 
-// Prints the numbers of a run's answer with a space after each.
-pub fn put_outcome(rt: &impl Print, outcome: Outcome)
+// Prints the numbers of a run's end with a space after each.
+pub fn put_outcome(rt: &impl Print, end: RunEnd)
     ensures { result ≡ tt }
 {
-    let ledger = outcome.ledger;
-    print::three(rt, outcome.accepted, outcome.refusal as u64, outcome.work);
-    put_ledger(rt, ledger);
+    let refusal = refusal::number_or_zero(end.refusal);
+    print::spaced(rt, &[end.accepted, refusal as u64, end.work]);
+    put_ledger(rt, end.ledger);
 }
 
 // Prints a whole run, with the room that the case asks for.
@@ -103,24 +111,17 @@ pub fn run(rt: &impl Print, payload: &[u8])
     let mut out = print::buffer();
     let room = print::room_of(numbers::read::<4>(payload, image::BYTES));
     let lent = &mut out[0..room];
-    let outcome = run::run(ledger_of(payload), &payload[RUN_HEAD..], lent);
-    put_outcome(rt, outcome);
+    let end = run::run(ledger_of(payload), &payload[RUN_HEAD..], lent);
+    put_outcome(rt, end);
     print::bytes(rt, lent, b'\n');
 }
 
-// Answers room for the text of any listing.
-fn text() -> [u8; lines::TEXT]
-    ensures { most_text ≡ length result }
-{
-    [0; lines::TEXT]
-}
-
-// Prints the listing of a file.
+// Prints the listing of a file; the text has room for any.
 pub fn listing(rt: &impl Print, payload: &[u8])
     ensures { result ≡ tt }
 {
-    let mut text = text();
-    let listed = lines::listing(payload, &mut text);
-    let length = listed.length;
-    print::bytes(rt, &text[..length], b'\n');
+    let mut text = [0u8; lines::TEXT];
+    if let Ok(length) = lines::listing(payload, &mut text) {
+        print::bytes(rt, &text[..length], b'\n');
+    }
 }

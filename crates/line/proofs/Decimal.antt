@@ -5,8 +5,10 @@ use Prim.Native.Nat.{ℕ, zero, suc, ◌+◌, ◌-◌, ◌*◌, ◌/◌, ◌%◌
 use native.Mathlib.Nat.{pow-suc}
 use native.Mathlib.Decide.{dec_le}
 use native.Mathlib.Omega.{arith}
-use lib.ListN.{length, get_or, length-append, get_or-append}
+use lib.ListN.{length, length-append}
 use borrow.Author.Tests.{lt-ltb, le-ltb}
+use Rattle.std.specs.Fmt.{decimal}
+use Rattle.std.proofs.lemmas.Fmt.{decimal_by_steps}
 use Rattle.line.specs.Line.{digits_of, decimal_of, read_on}
 
 -- Wherever there is room for the digits of n they are the same.
@@ -41,13 +43,14 @@ pub more_digits : (n : ℕ) → 10 ≤ n → decimal_of n ≡ decimal_of (n / 10
 unfolding decimal_of digits_of
 more_digits n h = simp (le-ltb n 10 h) (rw (same n (suc (n / 10)) (n / 10) (omega arith) (omega arith)))
 
+-- A number as std prints it is its plain decimal.
+pub plain_decimal : (n : ℕ) → n < 2 ^ 64 → decimal n ≡ decimal_of n
+plain_decimal =
+    decimal_by_steps (λ n digits. digits ≡ decimal_of n) (λ n h. sym (one_digit n h))
+    λ n front h e. ap (λ (digits : List ℕ). digits ++ ((48 + n % 10) ∷ [])) e ∙ sym (more_digits n h)
+
 pub one_more : (n : ℕ) → 10 ≤ n → length (decimal_of n) ≡ length (decimal_of (n / 10)) + 1
 one_more n h = ap length (more_digits n h) ∙ length-append (decimal_of (n / 10)) ((48 + n % 10) ∷ [])
-
-pub two_more : (n : ℕ) → 100 ≤ n → length (decimal_of n) ≡ length (decimal_of (n / 100)) + 2
-two_more n h =
-    let same : n / 10 / 10 ≡ n / 100 = omega arith in
-    omega (arith, one_more n (omega arith), one_more (n / 10) (omega arith), ap (λ (m : ℕ). length (decimal_of m)) same)
 
 -- A number below 10 ^ (k + 1) has at most k + 1 digits.
 abbrev Few : ℕ → Type 0
@@ -59,30 +62,6 @@ few_digits = by_digits Few (λ n h k b. rw (one_digit n h) (omega arith)) more
     more : (n : ℕ) → 10 ≤ n → Few (n / 10) → Few n
     more n h rest zero b = absurd (omega arith)
     more n h rest (suc k) b = let small : n < 10 ^ suc k * 10 = rw pow-suc at b in omega (arith, one_more n h, rest k (omega arith))
-
--- There is a first digit, and it is 0 for the number 0 alone.
-pub first_digit : (n : ℕ) → (0 < length (decimal_of n)) × (0 < n → 48 < get_or (decimal_of n) 0 0)
-first_digit =
-    by_digits (λ n. (0 < length (decimal_of n)) × (0 < n → 48 < get_or (decimal_of n) 0 0))
-    (λ n h. rw (one_digit n h) (omega arith, λ p. omega arith))
-    λ n h rest. (
-      omega (arith, one_more n h),
-      λ p. rw (more_digits n h, get_or-append (decimal_of (n / 10)) ((48 + n % 10) ∷ []) 0 0 rest.0) (rest.1 (omega arith)),
-    )
-
--- The last k digits of a number; all of them are the number.
-unfoldable pub last_digits : ℕ → ℕ → List ℕ
-last_digits zero n = []
-last_digits (suc k) n = last_digits k (n / 10) ++ ((48 + n % 10) ∷ [])
-
-pub all_digits : (n : ℕ) → decimal_of n ≡ last_digits (length (decimal_of n)) n
-unfolding last_digits
-all_digits =
-    by_digits (λ n. decimal_of n ≡ last_digits (length (decimal_of n)) n)
-    (λ n h. let same : n % 10 ≡ n = omega arith in rw (one_digit n h) (rw same))
-    λ n h rest.
-    let size : length (decimal_of n) ≡ suc (length (decimal_of (n / 10))) = omega (arith, one_more n h) in
-    rw size (more_digits n h ∙ ap (λ (front : List ℕ). front ++ ((48 + n % 10) ∷ [])) rest)
 
 read_on_lem : (xs ys : List ℕ) (n : ℕ) → read_on n (xs ++ ys) ≡ read_on (read_on n xs) ys
 read_on_lem [] ys n = refl

@@ -1,16 +1,15 @@
 -- Texts that are written one after another are one text, and a text that is written into zeros makes a line.
 use mathlib.Core.Path.{◌≡◌, refl, sym, ap, ◌∙◌}
-use mathlib.Core.List.{List, [], ◌∷◌, ◌++◌, append_assoc, append-nil}
-use Prim.Native.Nat.{ℕ, suc, ◌+◌, ◌-◌, ◌/◌, ◌%◌, ◌≤◌, ◌<◌}
+use mathlib.Core.List.{List, [], ◌∷◌, ◌++◌}
+use Prim.Native.Nat.{ℕ, ◌+◌, ◌-◌, ◌≤◌}
 use native.Mathlib.Nat.{zero-add}
 use native.Mathlib.Omega.{arith}
 use lib.ListN.{length, drop, set, replicate, length-set, length-append, length-replicate, replicate-append-replicate}
-use lib.Seq.{sets, set_comm, length-sets, sets-eq, drop_at}
+use lib.Seq.{sets, length-sets, sets-eq, drop_at}
 use Rattle.numbers.proofs.Bytes.{sets_join}
 use Rattle.line.specs.declared.form.Line.{Line}
-use Rattle.line.specs.Line.{decimal_of, line_bytes, padded, Lendable}
+use Rattle.line.specs.Line.{line_bytes, padded, Lendable}
 use Rattle.line.specs.Writing.{Writes}
-use Rattle.line.proofs.Decimal.{last_digits, all_digits}
 use Rattle.line.proofs.LineLaws.{line_lendable}
 
 -- What is copied is written.
@@ -31,48 +30,6 @@ module _ {l m xs : List ℕ} {at mid : ℕ} (first : Writes l at xs m mid) where
 
   pub write_byte : (b : ℕ) → Writes l at (xs ++ (b ∷ [])) (set m mid b) (mid + 1)
   write_byte b = write_on (one_byte b)
-
--- A byte before others that are written is written first as well.
-set_first : (xs l : List ℕ) (i at b : ℕ) → i < at → set (sets l at xs) i b ≡ sets (set l i b) at xs
-set_first [] l i at b h = refl
-set_first (x ∷ xs) l i at b h =
-    set_first xs (set l at x) i (suc at) b (omega arith)
-    ∙ ap (λ (m : List ℕ). sets m (suc at) xs) (set_comm l at i x b (λ e. omega arith))
-
--- A number written from its last digit on: the digits from place i on stand, and left is what is before them.
-pub record FromBehind (entry : List ℕ) (at n : ℕ) (exit : List ℕ) (i left : ℕ) : Type 0 where
-  pub digits : List ℕ
-  pub not_before : at ≤ i
-  pub whole : decimal_of n ≡ last_digits (i - at) left ++ digits
-  pub stands : exit ≡ sets entry i digits
-
-pub no_digit : (l : List ℕ) (at n : ℕ) {i : ℕ} → i ≡ at + length (decimal_of n) → FromBehind l at n l i n
-no_digit l at n {i} e =
-    let all : i - at ≡ length (decimal_of n) = omega arith in
-    record { digits = []; not_before = omega arith; whole = rw all (all_digits n ∙ sym (append-nil (last_digits (length (decimal_of n)) n))); stands = refl }
-
-module _ {l m : List ℕ} {at n i left : ℕ} (h : FromBehind l at n m i left) where
-  pub digit_before : at < i → FromBehind l at n (set m (i - 1) (48 + left % 10)) (i - 1) (left / 10)
-  unfolding last_digits
-  digit_before more =
-      let digit = 48 + left % 10 in
-      let count : i - at ≡ suc (i - 1 - at) = omega arith in
-      let next : suc (i - 1) ≡ i = omega arith in
-      let split : last_digits (i - at) left ≡ last_digits (i - 1 - at) (left / 10) ++ (digit ∷ []) = rw count in
-      record {
-        digits = digit ∷ h.digits;
-        not_before = omega arith;
-        whole = h.whole ∙ rw split (append_assoc (last_digits (i - 1 - at) (left / 10)) (digit ∷ []) h.digits);
-        stands = rw (h.stands, next) (set_first h.digits l (i - 1) i digit (omega arith));
-      }
-
-  pub all_stand : i ≤ at → Writes l at (decimal_of n) m (at + length (decimal_of n))
-  unfolding last_digits
-  all_stand none =
-      let here : i ≡ at = omega (arith, h.not_before) in
-      let zero_left : i - at ≡ 0 = omega arith in
-      let whole : decimal_of n ≡ h.digits = h.whole ∙ rw zero_left in
-      copied l at (decimal_of n) (h.stands ∙ rw (here, ← whole))
 
 -- A text that is written into zeros takes the place of as many.
 in_zeros : (text : List ℕ) (k : ℕ) → sets (replicate (length text + k) 0) 0 text ≡ text ++ replicate k 0

@@ -1,5 +1,6 @@
 // The lines that the listing prints, one for each accepted record and the one of a refusal.
-// It serves the last part of document 01's section 'Worked figures'; `lines` puts them together.
+// It serves the last part of document 01's section 'Worked figures'; `lines` puts them together. The lines of `changes` are written by
+// `put` and `put_number` too.
 #![tactic(auto)]
 
 mod form;
@@ -10,6 +11,7 @@ ghost use Rattle.line.specs.Line.{accepted_text, refused_text, padded, Lendable}
 
 pub use form::{BYTES, Line};
 use text::number;
+pub use text::{put, put_number};
 
 // Answers the line of an accepted record; stock is total R.
 pub fn accepted(period: u16, x0: u64, figure: u64, bound: u64, stock: u64) -> Line
@@ -31,9 +33,9 @@ pub fn refused(refusal: u8, place: u64) -> Line
     ensures lendable { Lendable result }
 {
     let mut bytes = [0u8; BYTES];
-    numbers::write_bytes(&mut bytes, 0, b"refused ");
-    let words_at = number(&mut bytes, 8, refusal as u64, b' ');
-    numbers::write_bytes(&mut bytes, words_at, b"at record ");
-    let len = number(&mut bytes, words_at + 10, place, b'\n');
+    let refusal_at = put(&mut bytes, 0, b"refused ");
+    let words_at = number(&mut bytes, refusal_at, refusal as u64, b' ');
+    let place_at = put(&mut bytes, words_at, b"at record ");
+    let len = number(&mut bytes, place_at, place, b'\n');
     Line { bytes, len }
 }

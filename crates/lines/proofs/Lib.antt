@@ -1,3 +1,4 @@
 pub mod Enough
 pub mod Lines
 pub mod MidListing
+pub mod OneListing

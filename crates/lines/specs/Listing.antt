@@ -1,13 +1,14 @@
 -- Document 01, 'Worked figures', last part: the listing of a file, read off its run from a fresh ledger with room for every output
 -- record.
-use Rattle.std.specs.Prelude.{◌≡◌, cond, List, [], ◌∷◌, ◌++◌, ℕ, ◌+◌, ◌*◌, ◌≤◌, eqb, leb, length, take, drop}
+use Rattle.std.specs.Prelude.{◌≡◌, cond, List, [], ◌∷◌, ◌++◌, ℕ, ◌+◌, ◌*◌, ◌≤◌, eqb, leb, length, take, drop, Result, Ok, Err}
 use Rattle.record.specs.Fields.{record_bytes}
 use Rattle.carbon.specs.Carbon.{most_records}
 use Rattle.ledger.specs.Take.{total_stock}
 use Rattle.run.specs.History.{Turn, records_of, Run, whole_run}
-use Rattle.ledger.specs.declared.answer.Answer.{Answer}
+use Rattle.ledger.specs.Answer.{Answer}
 use Rattle.line.specs.Line.{line_bytes, accepted_text, refused_text}
-use Rattle.lines.specs.declared.Listed.{Listed}
+use Rattle.lines.specs.declared.room.NoRoom.{NoRoom}
+use Rattle.lines.specs.Listed.{Listed}
 
 -- The line of an accepted record: period, x0, figure, bound, total R. The period is the n of the ledger after it.
 unfoldable pub answer_text : Answer → List ℕ
@@ -44,6 +45,14 @@ most_text = line_bytes * (most_records + 1)
 -- A text has room that has the bytes of a line for every line.
 unfoldable pub room_for : (file : List ℕ) → ℕ
 room_for file = line_bytes * most_lines (length (records_of file))
+
+-- The number of the refusal, and the numbers of each answer.
+abbrev pub number_of : NoRoom → ℕ
+number_of why = 2
+
+abbrev pub numbers_of : Result ℕ NoRoom → Listed
+numbers_of (Ok length) = record { length = length; refusal = 0 }
+numbers_of (Err why) = record { length = 0; refusal = number_of why }
 
 -- With room, the length of the listing; without, the refusal 2.
 unfoldable pub listed_of : (file : List ℕ) (room : ℕ) → Listed

@@ -1,8 +1,8 @@
 -- What the functions that write a listing, stretch by stretch, do; no public contract says it.
-use Rattle.std.specs.Prelude.{◌≡◌, cond, List, [], ◌++◌, ℕ, zero, suc, ◌+◌, ◌*◌, ◌≤◌, eqb, length, take, drop}
+use Rattle.std.specs.Prelude.{◌≡◌, List, [], ◌++◌, ℕ, zero, suc, ◌+◌, ◌*◌, ◌≤◌, length, take, drop}
 use Rattle.numbers.specs.Bytes.{number_at}
 use Rattle.record.specs.Fields.{record_bytes}
-use Rattle.line.specs.Line.{line_bytes, accepted_text}
+use Rattle.line.specs.Line.{accepted_text}
 use Rattle.lines.specs.Listing.{listing_of}
 
 -- The line that the output record at a place says, and the lines of the first k output records.
@@ -13,10 +13,6 @@ output_text bytes at =
 unfoldable pub output_lines : List ℕ → ℕ → List ℕ
 output_lines bytes zero = []
 output_lines bytes (suc k) = output_lines bytes k ++ output_text bytes (record_bytes * k)
-
--- The room for the line of a refusal, none for 0.
-unfoldable pub end_room : (refusal : ℕ) → ℕ
-end_room refusal = cond (eqb refusal 0) 0 line_bytes
 
 -- The listing of a file stands at the start of the text, end is the place after it, and whatever is past it keeps its value.
 pub record Lists (file text text' : List ℕ) (end : ℕ) : Type 0 where

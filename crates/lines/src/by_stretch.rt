@@ -3,7 +3,7 @@ ghost use Rattle.std.specs.Prelude.{◌≤◌, length};
 ghost use Rattle.lines.specs.Listing.{room_for};
 ghost use Rattle.lines.specs.Outputs.{Lists};
 
-use crate::writing::{put_end, put_lines};
+use crate::writing::{put_lines, put_refusal};
 use ledger::Ledger;
 
 // Writes the listing of a file at the start of a text with room for it, and answers how many bytes it has.
@@ -13,16 +13,14 @@ pub(crate) fn write_listing(file: &[u8], text: &mut [u8]) -> usize
 {
     let mut out = [0u8; stretches::STRETCH];
     let mut ledger = Ledger::fresh();
-    let mut at: usize = 0;
     let mut length: usize = 0;
-    let mut refusal: u8 = 0;
-    while (refusal == 0) & (at < file.len()) {
-        let ran = stretches::run_stretch(ledger, file, at, &mut out);
+    for part in file.chunks(stretches::STRETCH) {
+        let ran = run::run(ledger, part, &mut out);
         length = put_lines(text, length, &out, ran.accepted);
-        let next = ran.ledger;
-        ledger = next;
-        refusal = ran.refusal;
-        at = stretches::stretch_end(file, at);
+        ledger = ran.ledger;
+        if let Some(why) = ran.refusal {
+            return put_refusal(text, length, why, ledger.n as u64 + 1);
+        }
     }
-    put_end(text, length, refusal, ledger.n as u64 + 1)
+    length
 }

@@ -1,12 +1,13 @@
 // Lines, written into a text.
 ghost use Rattle.std.specs.Prelude.{◌≡◌, ◌+◌, ◌*◌, ◌≤◌, length, take};
 ghost use Rattle.record.specs.Fields.{record_bytes};
-ghost use Rattle.line.specs.Line.{line_bytes, padded, Lendable};
+ghost use Rattle.refusal.specs.Numbers.{number_of};
+ghost use Rattle.line.specs.Line.{line_bytes, padded, refused_text, Lendable};
 ghost use Rattle.line.specs.Writing.{Writes};
-ghost use Rattle.lines.specs.Listing.{end_text};
-ghost use Rattle.lines.specs.Outputs.{output_text, output_lines, end_room};
+ghost use Rattle.lines.specs.Outputs.{output_text, output_lines};
 
 use line::Line;
+use refusal::Refusal;
 
 // Answers the line of the output record at a place.
 fn line_at(out: &[u8], at: usize) -> Line
@@ -29,10 +30,7 @@ fn put(text: &mut [u8], at: usize, line: Line) -> usize
     requires len_in_bounds { at + line.len ≤ length text.old }
     ensures { Writes text.old at (take line.len line.bytes) text.new result }
 {
-    let bytes = line.bytes;
-    let len = line.len;
-    numbers::write_bytes(text, at, &bytes[..len]);
-    at + len
+    line::put(text, at, &line.bytes[..line.len])
 }
 
 // Writes the lines of so many output records from a place on, and answers the place after them.
@@ -42,22 +40,17 @@ pub(crate) fn put_lines(text: &mut [u8], at: usize, out: &[u8], count: u64) -> u
     ensures upper_bound { result ≤ at + line_bytes * count }
 {
     let mut end = at;
-    let mut i: u64 = 0;
-    while i < count {
-        end = put(text, end, line_at(out, record::BYTES * i as usize));
-        i += 1;
+    for i in 0..count as usize {
+        end = put(text, end, line_at(out, record::BYTES * i));
     }
     end
 }
 
-// Writes the line of a refusal from a place on, none for 0, and answers the place after it.
-pub(crate) fn put_end(text: &mut [u8], at: usize, refusal: u8, place: u64) -> usize
-    requires { at + end_room refusal ≤ length text.old }
-    ensures writes { Writes text.old at (end_text refusal place) text.new result }
-    ensures upper_bound { result ≤ at + end_room refusal }
+// Writes the line of a refusal from a place on, and answers the place after it.
+pub(crate) fn put_refusal(text: &mut [u8], at: usize, why: Refusal, place: u64) -> usize
+    requires { at + line_bytes ≤ length text.old }
+    ensures writes { Writes text.old at (refused_text (number_of why) place) text.new result }
+    ensures upper_bound { result ≤ at + line_bytes }
 {
-    if refusal == 0 {
-        return at;
-    }
-    put(text, at, line::refused(refusal, place))
+    put(text, at, line::refused(why.number(), place))
 }

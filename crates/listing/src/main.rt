@@ -7,14 +7,15 @@ fn main(rt: HostRuntime) {
     let mut file = [0u8; lines::FILE];
     let mut text = [0u8; lines::TEXT];
     let input = input::read_all(&mut rt.stdin(), &mut file);
-    if input.failed {
-        input::fail(&rt.stderr(), b"listing: standard input", input.error);
+    if let Some(error) = input.failure {
+        input::fail(&rt.stderr(), b"listing: standard input", error);
         return;
     }
     let read = input.length;
-    let listed = lines::listing(&file[..read], &mut text);
-    let length = listed.length;
-    if let Err(error) = rt.write_all(&text[..length]) {
+    // the text has room for the listing of any file
+    if let Ok(length) = lines::listing(&file[..read], &mut text)
+        && let Err(error) = rt.write_all(&text[..length])
+    {
         input::fail(&rt.stderr(), b"listing: standard output", error);
     }
 }

@@ -10,7 +10,7 @@ use Rattle.record.specs.Fields.{record_bytes}
 use Rattle.ledger.specs.Refusal.{refusal_of}
 use Rattle.ledger.specs.Take.{accepted_of, output_record}
 use Rattle.ledger.specs.declared.book.Ledger.{Ledger}
-use Rattle.ledger.specs.declared.answer.Answer.{Answer}
+use Rattle.ledger.specs.Answer.{Answer}
 use Rattle.ledger.proofs.Accepted.{has_room}
 use Rattle.run.specs.History.{records_of, Run}
 use Rattle.image.specs.Image.{image_bytes, ledger_of, image_of, imaged}

@@ -1,6 +1,6 @@
 -- What a call with yearly totals makes of the image that is lent to it: the step and the run of request l of document 02, from image to image.
 use Rattle.std.specs.Prelude.{List, ℕ, length}
-use Rattle.ledger.specs.declared.answer.Answer.{Answer}
+use Rattle.ledger.specs.Answer.{Answer}
 use Rattle.run.specs.History.{records_of, Run}
 use Rattle.image.specs.Image.{ledger_of}
 use Rattle.calls.specs.Calls.{room_of}

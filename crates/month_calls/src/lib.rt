@@ -25,10 +25,13 @@ pub fn take(
     let room = calls::room(out.len(), answer.len());
     let taken = yearly_totals::take_month(image::read(image), totals, record, &mut out[..room]);
     calls::write_answer(answer, taken);
-    if taken.refusal == 0 {
-        image::write(image, taken.ledger);
+    match taken {
+        Ok(taken) => {
+            image::write(image, taken.ledger);
+            0
+        }
+        Err(why) => why.number(),
     }
-    taken.refusal
 }
 
 // Takes the monthly records of a file one after another, adds each accepted one to its year's slot, writes its output record, and leaves the image
@@ -54,5 +57,5 @@ pub fn run(
     if end.accepted > 0 {
         image::write(image, end.ledger);
     }
-    end.refusal
+    refusal::number_or_zero(end.refusal)
 }

@@ -1,6 +1,6 @@
 -- The answer by what was tested: each refusal where those ahead of it are not there, and the file rewritten where none is.
 use mathlib.Core.Path.{◌≡◌, refl, sym, ap, ◌∙◌}
-use mathlib.Core.Bool.{Bool, true, false, true≢false, not, ◌||◌}
+use mathlib.Core.Bool.{Bool, true, false, cond, true≢false, not, ◌||◌}
 use mathlib.Core.List.{List, [], ◌∷◌, ◌++◌}
 use Prim.Native.Nat.{ℕ, suc, ◌*◌, ◌%◌, ◌≤◌, ◌<◌}
 use native.Mathlib.Nat.{zero-add}
@@ -9,14 +9,16 @@ use borrow.Author.Tests.{eq-eqb, ne_eqb, ltb-false}
 use lib.Dec.{eqb, ltb}
 use lib.ListN.{length, get_or, drop}
 use lib.Seq.{sets, sets-eq}
+use Rattle.std.proofs.Common.{Result, Ok, Err}
 use Rattle.numbers.specs.Eight.{one, eight, sum_of}
 use Rattle.numbers.specs.Lists.{joined}
 use Rattle.numbers.proofs.Eight.{eight_at, sum_same}
 use Rattle.numbers.proofs.Joined.{joined_same, joined_length}
 use Rattle.record.specs.Fields.{mass_of}
 use Rattle.order.specs.Order.{eight_bits, is_order}
-use Rattle.order.specs.Repair.{rewritten, is_other, record_in, number_of_records, stood_at, new_file, report_of, bits_set, repair_faults, repair_refusal, repaired_of, out_left, report_left}
-use Rattle.order.specs.declared.Repaired.{Repaired}
+use Rattle.order.specs.Repair.{rewritten, is_other, record_in, number_of_records, stood_at, new_file, report_of, bits_set, repair_faults, repair_refusal, Repaired, numbers_of, repaired_of, out_left, report_left}
+use Rattle.order.specs.declared.RepairRefusal.{RepairRefusal}
+use Rattle.order.specs.declared.RepairRefusal.TheVariants.{NotAnOrder, PartOfARecord, NoRoom}
 use Rattle.order.proofs.Bits.{bits_same}
 use Rattle.order.proofs.Named.{place_lt}
 use Rattle.order.proofs.Records.{rewritten_same, rewritten_length, whole_record}
@@ -142,3 +144,22 @@ module _ (order file : List ℕ) where
                   q ∙ ap (sets report 0) (new_report places e) ∙ front (report_of order file) report (number_of_records file) report_length fits.1 ∙ sym report_is,
                 ),
               )
+
+-- The case of the answer that has these numbers: so two cases with the same numbers are one.
+case_of : Repaired → Result ℕ RepairRefusal
+case_of n = cond (eqb n.refusal 20) (Err NotAnOrder) (cond (eqb n.refusal 21) (Err PartOfARecord) (cond (eqb n.refusal 22) (Err NoRoom) (Ok n.changed)))
+
+same_case : (answer : Result ℕ RepairRefusal) → case_of (numbers_of answer) ≡ answer
+unfolding case_of
+same_case (Ok changed) = refl
+same_case (Err NotAnOrder) = refl
+same_case (Err PartOfARecord) = refl
+same_case (Err NoRoom) = refl
+
+pub one_repaired : (n : Repaired) (a b : Result ℕ RepairRefusal) → numbers_of a ≡ n → numbers_of b ≡ n → a ≡ b
+one_repaired n a b p q = sym (same_case a) ∙ ap case_of (p ∙ sym q) ∙ same_case b
+
+-- With a refusal the answer is 0.
+pub none_changed : (order file out report : List ℕ) → (repair_refusal order file out report ≡ 0 → ⊥) → (repaired_of order file out report).changed ≡ 0
+unfolding repaired_of
+none_changed order file out report bad = rw (ne_eqb (repair_refusal order file out report) 0 bad) refl

@@ -4,7 +4,8 @@ use mathlib.Core.List.{List, [], ◌∷◌, ◌++◌}
 use Prim.Native.Nat.{ℕ, zero, suc, ◌+◌, ◌*◌, ◌≤◌, ◌<◌}
 use native.Mathlib.Omega.{arith}
 use lib.ListN.{length, take, drop, get_or, length-append, length-drop}
-use lib.Seq.{length-take-le, take_at, drop-append-add, get_or-take, get_or-drop}
+use lib.Seq.{length-take-le, take_at, drop-append-add, drop-drop, get_or-take, get_or-drop}
+use Rattle.std.proofs.Math.Seq.{drop-append_seam}
 use Rattle.numbers.specs.Bytes.{number_at, bytes_of}
 use Rattle.numbers.specs.Lists.{joined}
 use Rattle.numbers.proofs.Bytes.{number_own, number_same, bytes_at}
@@ -37,6 +38,20 @@ bytes_in file at small i = part 48 (drop at file) (λ j. rw (get_or-drop at file
     part (suc n) [] h i = omega arith
     part (suc n) (x ∷ xs) h zero = h 0
     part (suc n) (x ∷ xs) h (suc i) = part n xs (λ j. h (suc j)) i
+
+-- A record as the next 48 bytes of those that are left.
+module _ (file : List ℕ) (q : ℕ) (bytes rest : List ℕ) (is : drop (48 * q) file ≡ bytes ++ rest) (long : length bytes ≡ 48) where
+  pub next_record : bytes ≡ record_in file q
+  next_record = sym (ap (take 48) is ∙ take_at bytes rest 48 long)
+
+  pub next_within : 48 * (q + 1) ≤ length file
+  next_within = omega (arith, length-drop (48 * q) file, ap length is, length-append bytes rest)
+
+  pub next_rest : rest ≡ drop (48 * (q + 1)) file
+  next_rest =
+      let more : 48 * q + length bytes ≡ 48 * (q + 1) = omega (arith, long) in
+      sym (drop-append_seam bytes rest) ∙ ap (drop (length bytes)) (sym is) ∙ drop-drop (length bytes) (48 * q) file
+      ∙ ap (λ (k : ℕ). drop k file) more
 
 pub rewritten_same : (from from' : ℕ → ℕ) (bytes : List ℕ) → ((t : ℕ) → t < 8 → from t ≡ from' t) → rewritten from bytes ≡ rewritten from' bytes
 unfolding rewritten

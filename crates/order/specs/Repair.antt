@@ -1,12 +1,13 @@
 -- Document 02, request g, 'Put the shuffled files right': a file of records rewritten, and the report of what is not as it was. Place t,
 -- from 0 on, has type t + 1.
-use Rattle.std.specs.Prelude.{Bool, cond, not, ◌||◌, List, [], ◌∷◌, ◌++◌, ℕ, ◌+◌, ◌*◌, ◌/◌, ◌%◌, eqb, ltb, length, take, drop}
+use Rattle.std.specs.Prelude.{Bool, cond, not, ◌||◌, List, [], ◌∷◌, ◌++◌, ℕ, ◌+◌, ◌*◌, ◌/◌, ◌%◌, eqb, ltb, length, take, drop, Result, Ok, Err}
 use Rattle.numbers.specs.Eight.{one, sum_of}
 use Rattle.numbers.specs.Fault.{Fault, ◌when◌, first_of}
 use Rattle.numbers.specs.Lists.{joined}
 use Rattle.record.specs.Fields.{record_bytes, mass_of}
 use Rattle.order.specs.Order.{eight_bits, is_order, place_of}
-use Rattle.order.specs.declared.Repaired.{Repaired}
+use Rattle.order.specs.declared.RepairRefusal.{RepairRefusal}
+use Rattle.order.specs.declared.RepairRefusal.TheVariants.{NotAnOrder, PartOfARecord, NoRoom}
 
 -- What a record has ahead of its masses, and the 4 bytes of the mass at a place.
 abbrev pub record_head : List ℕ → List ℕ
@@ -36,6 +37,21 @@ number_of_records file = length file / record_bytes
 -- The mass of place t comes from the place where the order names its type.
 abbrev pub stood_at : (order : List ℕ) → ℕ → ℕ
 stood_at order t = place_of order (t + 1)
+
+-- An answer in numbers: the refusal's, 0 if none, and how many bits of the file's report are set, 0 if refused.
+pub record Repaired : Type 0 where
+  pub refusal : ℕ
+  pub changed : ℕ
+
+-- The number of each refusal, and the numbers of each case of the answer.
+abbrev pub refusal_number : RepairRefusal → ℕ
+refusal_number NotAnOrder = 20
+refusal_number PartOfARecord = 21
+refusal_number NoRoom = 22
+
+abbrev pub numbers_of : Result ℕ RepairRefusal → Repaired
+numbers_of (Ok changed) = record { refusal = 0; changed = changed }
+numbers_of (Err why) = record { refusal = refusal_number why; changed = 0 }
 
 module _ (order file : List ℕ) where
   -- 'rewrite a file of records'

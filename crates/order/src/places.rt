@@ -10,8 +10,8 @@ pub(crate) fn places_of(order: &[u8]) -> [usize; 8]
     ensures { result ≡ eight (stood_at order.now) }
 {
     let mut places = [0usize; 8];
-    for p in 0..8usize {
-        places[(order[p] - 1) as usize] = p;
+    for (p, byte) in order.iter().enumerate() {
+        places[(*byte - 1) as usize] = p;
     }
     places
 }

@@ -13,7 +13,7 @@ use crate::masses::write_record;
 fn ones_in(byte: u8) -> u64
     ensures { (result ≡ ones byte) × (result ≤ 8) }
 {
-    u32::count_ones(byte as u32) as u64
+    byte.count_ones() as u64
 }
 
 // Writes each record anew and its byte of the report, and answers how many bits of the report are set.
@@ -23,14 +23,11 @@ pub(crate) fn rewrite(file: &[u8], places: [usize; 8], out: &mut [u8], report: &
     ensures out_after { out.new ≡ sets out.old 0 (joined (λ q. rewritten (λ u. get_or places u 0) (record_in file.now q)) (number_of_records file.now)) }
     ensures report_after { report.new ≡ sets report.old 0 (joined (λ q. eight_bits (is_other (λ u. get_or places u 0) (record_in file.now q)) ∷ []) (number_of_records file.now)) }
 {
-    let count = file.len() / record::BYTES;
     let mut changed = 0u64;
-    let mut q: usize = 0;
-    while q < count {
-        let bits = write_record(file, record::BYTES * q, places, out);
+    for (q, record) in file.chunks_exact(record::BYTES).enumerate() {
+        let bits = write_record(record, places, out, record::BYTES * q);
         report[q] = bits;
         changed += ones_in(bits);
-        q += 1;
     }
     changed
 }

@@ -1,4 +1,5 @@
-// The types that an order names, as a set in eight bits: bit t − 1 is set exactly when type t is named.
+// The types that an order names, as a set in eight bits by shifts and masks, as a rule of the project asks: bit t − 1 is set exactly when
+// type t is named.
 ghost use Rattle.std.specs.Prelude.{◌≡◌, ◌+◌, eqb};
 ghost use Rattle.std.specs.Int.Bits.{bit_or};
 ghost use Rattle.order.specs.Order.{eight_bits, is_order};
@@ -29,8 +30,8 @@ pub(crate) fn is_order(order: &[u8]) -> bool
         return false;
     }
     let mut seen = 0u8;
-    for p in 0..8usize {
-        seen = seen_with(seen, order[p]);
+    for byte in order {
+        seen = seen_with(seen, *byte);
     }
     seen == ALL
 }

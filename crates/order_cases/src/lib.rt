@@ -4,7 +4,7 @@
 
 ghost use Rattle.std.specs.Prelude.{◌≡◌, ◌≤◌, ◌<◌, length};
 
-use order::Repaired;
+use order::RepairRefusal;
 
 // What stands ahead of the order: the room of the output and that of the report in 4 bytes each, and how many bytes the order has.
 pub const HEAD: usize = 9;
@@ -30,9 +30,13 @@ fn order_end(payload: &[u8]) -> usize
 }
 
 // Prints the numbers of an answer with a space after each.
-fn put_repaired(rt: &impl Print, repaired: Repaired) {
-    print::number(rt, repaired.refusal as u64, b' ');
-    print::number(rt, repaired.changed, b' ');
+fn put_repaired(rt: &impl Print, answer: Result<u64, RepairRefusal>) {
+    let (refusal, changed) = match answer {
+        Ok(changed) => (0, changed),
+        Err(why) => (why.number(), 0),
+    };
+    print::number(rt, refusal as u64, b' ');
+    print::number(rt, changed, b' ');
 }
 
 // Prints a file put right, with the rooms that the case asks for.

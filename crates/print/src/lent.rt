@@ -15,9 +15,5 @@ pub fn buffer() -> [u8; LONGEST]
 pub fn room_of(asked: u64) -> usize
     ensures { (result ≡ cond (ltb asked 65536) asked 65536) × (result ≤ 65536) }
 {
-    if asked < LONGEST as u64 {
-        asked as usize
-    } else {
-        LONGEST
-    }
+    asked.min(LONGEST as u64) as usize
 }

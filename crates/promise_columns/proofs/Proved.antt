@@ -21,7 +21,7 @@ use Rattle.by_type.specs.Alone.{HasPlaces}
 use Rattle.by_type.proofs.Alone.{release_in, figure_in, alone_is_ledgers}
 use Rattle.ledger.proofs.Accepted.{fresh_stock}
 use Rattle.by_type.specs.Columns.{column_entry, column_after, columns_after, any_short, columns_refusal, columns_of, filled_of}
-use Rattle.by_type.specs.declared.Filled.{Filled}
+use Rattle.by_type.specs.Columns.{Filled}
 use Rattle.by_type.proofs.Ledgers.{column_of_type, have_places, refused_first, refused_short, filled_well}
 use Rattle.promise_columns.specs.Sheets.{Lent, Sheets, sheets, nothing_filled, history, end_ledger, Long}
 use Rattle.promise_columns.specs.Promise.{ColumnsPromise}

@@ -2,7 +2,7 @@
 use Rattle.std.specs.Prelude.{◌≡◌, List, ℕ}
 use Rattle.record.specs.Fields.{period_of, kind_of, climate_of}
 use Rattle.ledger.specs.Take.{total_stock, output_fields}
-use Rattle.ledger.specs.declared.answer.Answer.{Answer}
+use Rattle.ledger.specs.Answer.{Answer}
 use Rattle.line.specs.Line.{accepted_text}
 use Rattle.lines.specs.Listing.{answer_text}
 

@@ -3,7 +3,7 @@
 use Rattle.std.specs.Prelude.{List, [], ◌∷◌, ◌++◌, map, ℕ, ◌*◌, ◌^◌, pos}
 use Rattle.numbers.specs.Bytes.{bytes_of}
 use Rattle.run.specs.History.{whole_run}
-use Rattle.tunisia.specs.declared.Reduction.{Reduction}
+use Rattle.tunisia.specs.Reduction.{Reduction}
 use Rattle.promise_tunisia.specs.Reported.{reported, alone}
 
 -- A year's record: climate 4, factor 1, OX 10, F 50, DOCf 50, class 1, GWP 1, f 0, with so many kg of food, whose mass is in bytes 24 to 27.

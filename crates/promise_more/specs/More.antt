@@ -4,7 +4,7 @@ use Rattle.std.specs.Prelude.{◌≡◌, List, [], ◌∷◌, ℕ, ◌^◌, ◌�
 use Rattle.record.specs.Fields.{record_bytes, mass_of}
 use Rattle.ledger.specs.Step.{brought_at, stock_at, released_at}
 use Rattle.ledger.specs.Take.{total_stock, total_brought}
-use Rattle.ledger.specs.declared.answer.Answer.{Answer}
+use Rattle.ledger.specs.Answer.{Answer}
 use Rattle.run.specs.History.{Offer, Turn, records_of}
 
 -- 'equal records but for masses': the bytes before the masses, 0 to 15, are the same, so the dry matter of sludge is, bytes 12 and 13.

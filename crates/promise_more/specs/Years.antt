@@ -1,7 +1,7 @@
 -- Document 02, request k, 'in the mode of i), for reference and project figures separately': two files, year by year and over a stretch.
 use Rattle.std.specs.Prelude.{◌≡◌, ◌≤◌}
 use Rattle.reductions.specs.Year.{Year, reference_of, project_of, reference_bound, project_bound}
-use Rattle.tunisia.specs.declared.Reduction.{Reduction}
+use Rattle.tunisia.specs.Reduction.{Reduction}
 use Rattle.promise_tunisia.specs.Reported.{StretchOfYears}
 
 -- One year of each file: reference, project and both bounds.

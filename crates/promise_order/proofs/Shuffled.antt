@@ -10,8 +10,7 @@ use borrow.Author.Tests.{eq-eqb, eqb-true, le-ltb}
 use lib.Dec.{ltb}
 use lib.ListN.{length}
 use Rattle.order.specs.Order.{is_order, types_seen, place_of}
-use Rattle.order.specs.Repair.{number_of_records, repaired_of, out_left, report_left}
-use Rattle.order.specs.declared.Repaired.{Repaired}
+use Rattle.order.specs.Repair.{number_of_records, Repaired, repaired_of, out_left, report_left}
 use Rattle.order.proofs.Named.{eight_bytes, named_at, order_when, full_set, place_lt, at_place, place_back}
 use Rattle.order.proofs.Answer.{rooms, no_order, not_whole, no_room, repair_accepted}
 use Rattle.promise_order.specs.Shuffled.{Shuffled, Righted, righted, NamesEach, number, WholeRecords, Room, nothing_written}

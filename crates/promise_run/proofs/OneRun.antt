@@ -11,7 +11,7 @@ use Rattle.ledger.specs.Refusal.{refusal_of}
 use Rattle.ledger.specs.Take.{take_of, accepted_of}
 use Rattle.run.specs.History.{work_over, records_of, in_turn, run_of, out_of, outcome_of}
 use Rattle.ledger.specs.declared.book.Ledger.{Ledger}
-use Rattle.run.specs.declared.Outcome.{Outcome}
+use Rattle.run.specs.Outcome.{Outcome}
 use Rattle.ledger.proofs.Take.{take_refusal}
 use Rattle.run.proofs.History.{run_goes_on, run_stops, run_ends}
 use Rattle.promise_three.specs.Offering.{Offering, offering_to, records_in}

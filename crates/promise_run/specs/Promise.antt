@@ -2,7 +2,7 @@
 use Rattle.std.specs.Prelude.{◌≡◌, List, ℕ}
 use Rattle.ledger.specs.declared.book.Ledger.{Ledger}
 use Rattle.run.specs.History.{out_of, outcome_of}
-use Rattle.run.specs.declared.Outcome.{Outcome}
+use Rattle.run.specs.Outcome.{Outcome}
 use Rattle.promise_run.specs.WholeRun.{run_over, WholeRun}
 
 pub record RunPromise : Type 0 where

@@ -5,8 +5,8 @@ use Rattle.record.specs.Fields.{record_bytes}
 use Rattle.ledger.specs.Take.{take_of}
 use Rattle.run.specs.History.{outputs, work_over, records_of, in_turn, Run, run_of}
 use Rattle.ledger.specs.declared.book.Ledger.{Ledger}
-use Rattle.ledger.specs.declared.answer.Answer.{Answer}
-use Rattle.run.specs.declared.Outcome.{Outcome}
+use Rattle.ledger.specs.Answer.{Answer}
+use Rattle.run.specs.Outcome.{Outcome}
 use Rattle.promise_three.specs.Offering.{Offering, offering_to, records_in}
 
 module _ (l : Ledger) (records : List (List ℕ)) (room : ℕ) (answer : Outcome) where

@@ -23,8 +23,7 @@ use Rattle.ledger.specs.Refusal.{refusal_of, sound}
 use Rattle.ledger.specs.Take.{take_of}
 use Rattle.ledger.specs.declared.book.Ledger.{Ledger}
 use Rattle.ledger.proofs.Take.{take_refusal}
-use Rattle.samples.specs.Samples.{least_samples, most_samples, right_number, fraction_at, adds_up, number_of, mass_of_type, sorted_of}
-use Rattle.samples.specs.declared.Sorted.{Sorted}
+use Rattle.samples.specs.Samples.{least_samples, most_samples, right_number, fraction_at, adds_up, number_of, mass_of_type, Sorted, sorted_of}
 use Rattle.samples.proofs.Laws.{mass_near, masses_add_up, mass_most}
 use Rattle.samples.proofs.Answer.{year_or_month, Right, number_within, Taken, when_taken, taken, nothing_sorted}
 use Rattle.promise_samples.specs.Sorting.{fraction_in, mean_fraction, mean_share, Enough, year, month, Sortable, Parted}

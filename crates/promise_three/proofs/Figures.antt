@@ -21,7 +21,7 @@ use Rattle.ledger.specs.Refusal.{refusal_of}
 use Rattle.ledger.specs.Take.{accepted_of}
 use Rattle.run.specs.History.{Turn}
 use Rattle.ledger.specs.declared.book.Ledger.{Ledger}
-use Rattle.ledger.specs.declared.answer.Answer.{Answer}
+use Rattle.ledger.specs.Answer.{Answer}
 use Rattle.ledger.proofs.Accepted as step
 use Rattle.run.proofs.History.{accepted_turn}
 use Rattle.promise_three.specs.Offering.{Offering, records_in}

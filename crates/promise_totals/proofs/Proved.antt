@@ -15,7 +15,7 @@ use Rattle.ledger.specs.Step.{fresh}
 use Rattle.ledger.specs.Refusal.{refusal_of, NoneAhead}
 use Rattle.ledger.specs.Take.{accepted_of, refused_of, take_of, output_record}
 use Rattle.ledger.specs.declared.book.Ledger.{Ledger}
-use Rattle.ledger.specs.declared.answer.Answer.{Answer}
+use Rattle.ledger.specs.Answer.{Answer}
 use Rattle.ledger.proofs.Take.{taken, take_refusal, output_length}
 use Rattle.run.specs.History.{Offer, Turn, turns, accepted, leading, outputs, cut, records_of, in_turn, out_of}
 use Rattle.run.proofs.History.{accepted_turn}

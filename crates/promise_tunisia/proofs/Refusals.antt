@@ -18,9 +18,8 @@ use Rattle.refusal.specs.Refusal.{faults_of}
 use Rattle.ledger.specs.Refusal.{sound, refusal_of}
 use Rattle.ledger.specs.declared.book.Ledger.{Ledger}
 use Rattle.tunisia.specs.Years.{refusal_by_year, accepted_years, refusal_after}
-use Rattle.tunisia.specs.Reduction.{answer_over, no_answer, reduction_of}
+use Rattle.tunisia.specs.Reduction.{answer_over, no_answer, reduction_of, Reduction}
 use Rattle.reductions.specs.Stretch.{most_grams, grams_light, is_stretch, stretch_refusal}
-use Rattle.tunisia.specs.declared.Reduction.{Reduction}
 use Rattle.promise_tunisia.specs.Reported.{StretchOfYears, reported, Within, Light, NoneBefore6}
 
 -- A monthly record, after 5 and before 6.

@@ -8,8 +8,7 @@ use Rattle.ledger.specs.Refusal.{sound}
 use Rattle.ledger.specs.declared.book.Ledger.{Ledger}
 use Rattle.run.specs.History.{ledger_after, records_of}
 use Rattle.tunisia.specs.Years.{refusal_by_year, accepted_years}
-use Rattle.tunisia.specs.Reduction.{reduction_of}
-use Rattle.tunisia.specs.declared.Reduction.{Reduction}
+use Rattle.tunisia.specs.Reduction.{reduction_of, Reduction}
 
 -- A file, a first and a last year, and grams of electricity and fuel.
 pub record StretchOfYears : Type 0 where

@@ -7,9 +7,9 @@ use Rattle.record.specs.Fields.{mass_of, deposit_of}
 use Rattle.ledger.specs.Step.{stock_at}
 use Rattle.ledger.specs.Take.{take_of}
 use Rattle.ledger.specs.declared.book.Ledger.{Ledger}
-use Rattle.ledger.specs.declared.answer.Answer.{Answer}
+use Rattle.ledger.specs.Answer.{Answer}
 use Rattle.run.specs.History.{records_of, run_of, outcome_of}
-use Rattle.run.specs.declared.Outcome.{Outcome}
+use Rattle.run.specs.Outcome.{Outcome}
 
 module _ (l : Ledger) (file out : List ℕ) where
   -- What the run answers.

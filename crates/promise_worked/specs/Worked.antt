@@ -6,7 +6,7 @@ use Rattle.decay.specs.Series.{entry_of}
 use Rattle.record.specs.Fields.{record_bytes}
 use Rattle.ledger.specs.Step.{fresh, stock_at}
 use Rattle.ledger.specs.Take.{take_of}
-use Rattle.ledger.specs.declared.answer.Answer.{Answer}
+use Rattle.ledger.specs.Answer.{Answer}
 
 -- A row: an entry D of the decay table, or the first step with 1 kg of a type, with its release G and its stock R.
 pub data Row : Type 0 where

@@ -1,14 +1,14 @@
--- A list of grams, entry by entry: what is left of it at a place is the entry there and what is left after it.
-use mathlib.Core.Path.{◌≡◌, refl, ap, ◌∙◌}
-use mathlib.Core.Bool.{true, false, ◌&&◌}
+-- What is known of the grams of a stretch: in std's words, how many they are, and how large together.
+use mathlib.Core.Path.{◌≡◌, refl, sym, ap}
+use mathlib.Core.Bool.{Bool, true, false, ◌&&◌}
 use mathlib.Core.List.{List, [], ◌∷◌}
-use Prim.Native.Nat.{ℕ, ◌+◌, ◌-◌, ◌*◌, ◌≤◌, ◌<◌}
-use native.Mathlib.Numerals.{add-one}
+use Prim.Native.Nat.{ℕ, ◌+◌, ◌-◌, ◌*◌, ◌≤◌}
 use native.Mathlib.Omega.{arith}
 use borrow.Author.Tests.{leb-true, eqb-true, not-false}
 use lib.Dec.{eqb, leb}
-use lib.ListN.{length, get_or, drop}
-use lib.Seq.{drop-cons}
+use lib.ListN.{length}
+use Rattle.std.specs.List.{list_all, sum}
+use Rattle.std.proofs.lemmas.List.Recursion.{is_sum_by}
 use Rattle.numbers.proofs.Eight.{both_true, three_true}
 use Rattle.numbers.proofs.Fault.{is_bad, clear}
 use Rattle.reductions.specs.Stretch.{most_grams, grams_light, all_grams, is_stretch, stretch_faults, stretch_refusal}
@@ -21,16 +21,14 @@ light_most (one ∷ rest) e =
     let both = both_true (leb one most_grams) (grams_light rest) e in
     omega (arith, leb-true one most_grams both.0, light_most rest both.1)
 
-module _ (grams : List ℕ) (i : ℕ) (h : i < length grams) where
-  here : drop i grams ≡ get_or grams i 0 ∷ drop (i + 1) grams
-  here = drop-cons grams i 0 h ∙ rw (add-one i)
+-- The two words for a list of grams are std's.
+pub light_all : (grams : List ℕ) → list_all (λ entry. leb entry most_grams) grams ≡ grams_light grams
+unfolding grams_light
+light_all [] = refl
+light_all (entry ∷ rest) = ap (λ (b : Bool). leb entry most_grams && b) (light_all rest)
 
-  pub light_on : grams_light (drop i grams) ≡ (leb (get_or grams i 0) most_grams && grams_light (drop (i + 1) grams))
-  unfolding grams_light
-  light_on = ap grams_light here
-
-  pub grams_on : all_grams (drop i grams) ≡ get_or grams i 0 + all_grams (drop (i + 1) grams)
-  grams_on = ap all_grams here
+pub grams_sum : (grams : List ℕ) → sum grams ≡ all_grams grams
+grams_sum grams = sym (is_sum_by all_grams (λ entry. entry) refl (λ _ _. refl) grams)
 
 -- What a stretch that is not refused is known to meet.
 module _ (first last years : ℕ) (electricity fuel : List ℕ) (e : stretch_refusal first last years electricity fuel ≡ 0) where
@@ -52,3 +50,7 @@ module _ (first last years : ℕ) (electricity fuel : List ℕ) (e : stretch_ref
       let low = leb-true 1 first tests.0 in
       let high = leb-true last years tests.1.1 in
       (omega (arith, eqb-true (length electricity) count counts.0), omega (arith, eqb-true (length fuel) count counts.1))
+
+  -- so the grams of either kind can be added
+  pub addable : years ≤ 1200 → ((grams_light electricity ≡ true) × (length electricity ≤ 1200)) × ((grams_light fuel ≡ true) × (length fuel ≤ 1200))
+  addable few = let count = entries_count few in ((entries_light.0, count.0), (entries_light.1, count.1))

@@ -1,3 +1,4 @@
 pub mod Sizes
 pub mod Entries
 pub mod Years
+pub mod Refusals

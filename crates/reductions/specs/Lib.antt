@@ -1,2 +1,3 @@
 pub mod Year
 pub mod Stretch
+pub mod Refusal

@@ -5,5 +5,5 @@
 mod grams;
 mod year;
 
-pub use grams::{GRAMS_LIMIT, all_grams, less_all, stretch_refusal};
+pub use grams::{GRAMS_LIMIT, Stretch, StretchRefusal, all_grams, less_all};
 pub use year::{Sums, with_year};

@@ -6,13 +6,14 @@ ghost use Rattle.reductions.specs.Year.{in_class, with_year};
 
 use record::Factors;
 
-// The site classes of the two figures: anaerobic managed for the reference, semi-aerobic managed for the project.
+// The site classes of the two figures: anaerobic managed for the reference, semi-aerobic managed for the project. Numbers, since they
+// stand in the place of a record's byte, as `Factors` holds it.
 const REFERENCE_CLASS: u8 = 1;
 
 const PROJECT_CLASS: u8 = 2;
 
 // What the years of a stretch add up to, in grams CO2e.
-#[derive(Clone, Copy)]
+#[derive(Clone, Copy, Debug, Default, PartialEq, Eq)]
 pub struct Sums {
     pub reference: u64,
     pub project: u64,
@@ -24,15 +25,7 @@ pub struct Sums {
 fn in_class(factors: Factors, class: u8) -> Factors
     ensures { result ≡ in_class class factors }
 {
-    Factors {
-        factor: factors.factor,
-        oxidation: factors.oxidation,
-        methane: factors.methane,
-        docf: factors.docf,
-        class,
-        potential: factors.potential,
-        captured: factors.captured,
-    }
+    Factors { class, ..factors }
 }
 
 // Answers the figure of x0 with a class in the place of that of the factors.

@@ -3,15 +3,18 @@
 #![tactic(auto)]
 
 mod lengths;
+mod why;
 
 ghost use Rattle.std.specs.Prelude.{cond, ◌≡◌, eqb};
 ghost use Rattle.numbers.specs.Eight.{every_of};
 ghost use Rattle.numbers.specs.Fault.{first_of, ahead};
 ghost use Rattle.record.specs.Ranges.{light};
+ghost use Rattle.refusal.specs.Numbers.{numbered};
 ghost use Rattle.refusal.specs.Refusal.{continues, faults_of};
 
 pub use lengths::{left_over, reach};
 use record::Factors;
+pub use why::{Refusal, number_or_zero};
 use year_factors::YearFactors;
 
 // Tells whether a record has a kind and a climate.
@@ -22,7 +25,7 @@ fn is_continued(kind: u8, climate: u8, bytes: &[u8]) -> bool
     (record::kind(bytes) == kind) & (record::climate(bytes) == climate)
 }
 
-// Answers the refusal that everything ahead of the masses (9) decides, 0 if none; `good` says whether the ledger is sound.
+// Answers the refusal that everything before the masses (9) decides, if any; `good` says whether the ledger is sound.
 #[tactic(auto, unfolding(crate::specs::Refusal::faults_of))]
 pub fn early(
     n: u16,
@@ -32,59 +35,55 @@ pub fn early(
     good: bool,
     bytes: &[u8],
     room: usize,
-) -> u8
-    ensures { result ≡ first_of (ahead 9 (faults_of good n kind climate year bytes.now room)) }
+) -> Option<Refusal>
+    ensures { numbered result ≡ first_of (ahead 9 (faults_of good n kind climate year bytes.now room)) }
 {
     if bytes.len() != record::BYTES {
-        return 1;
+        return Some(Refusal::RecordLength);
     }
     if room < record::BYTES {
-        return 2;
+        return Some(Refusal::NoRoom);
     }
     if !good {
-        return 3;
+        return Some(Refusal::UnsoundLedger);
     }
     if n == carbon::RECORDS {
-        return 4;
+        return Some(Refusal::LedgerFull);
     }
     if !record::is_coded(bytes) {
-        return 5;
+        return Some(Refusal::NoCode);
     }
     if record::period(bytes) as u64 != n as u64 + 1 {
-        return 6;
+        return Some(Refusal::PeriodOutOfTurn);
     }
     if (n > 0) & !is_continued(kind, climate, bytes) {
-        return 7;
+        return Some(Refusal::OtherKindOrClimate);
     }
     if !(Factors::of(bytes).is_in_range() & record::is_dry_in_range(bytes)) {
-        return 8;
+        return Some(Refusal::OutOfRange);
     }
     if !year.is_shared(n, bytes) {
-        return 17;
+        return Some(Refusal::OtherYearFactors);
     }
-    0
+    None
 }
 
 // Tells whether every mass of a record is at most the limit.
 fn are_light(bytes: &[u8]) -> bool
     ensures { result ≡ every_of (light bytes.now) 8 }
 {
-    let mut all = true;
-    for t in 0..8u8 {
-        all = all & record::is_light(bytes, t);
-    }
-    all
+    (0..8u8).all(|t| record::is_light(bytes, t))
 }
 
-// Answers the refusal of a record, 0 if none: the one that everything before the masses decides, and else 9 for a mass over the limit.
-pub fn with_masses(early: u8, bytes: &[u8]) -> u8
-    ensures { result ≡ cond (eqb early 0) (cond (every_of (light bytes.now) 8) 0 9) early }
+// Answers the refusal of a record, if any: the one that everything before the masses decides, and else 9 for a mass over the limit.
+pub fn with_masses(early: Option<Refusal>, bytes: &[u8]) -> Option<Refusal>
+    ensures { numbered result ≡ cond (eqb (numbered early) 0) (cond (every_of (light bytes.now) 8) 0 9) (numbered early) }
 {
-    if early != 0 {
+    if early.is_some() {
         return early;
     }
     if !are_light(bytes) {
-        return 9;
+        return Some(Refusal::MassOverLimit);
     }
-    0
+    None
 }

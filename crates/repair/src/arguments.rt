@@ -8,12 +8,11 @@ use std::env::{Env, FillError};
 // The room for an order: a digit more than it has, so that a longer word is seen to be none, and never cut to one.
 pub(crate) const ORDER: usize = 9;
 
-// What is asked for: the file put right, the report of what changes, or nothing that the program knows.
-#[derive(Drop)]
-pub(crate) enum Asked {
+// What is asked for: the file put right, or the report of what changes.
+#[derive(Clone, Copy, Debug, PartialEq, Eq)]
+pub(crate) enum Output {
     File,
     Report,
-    Unknown,
 }
 
 // Tells whether the program was started with a word at a place.
@@ -23,12 +22,7 @@ fn is_given(from: &impl Env, place: usize) -> bool {
 
 // Answers how many words the program was started with, its own name among them, and 4 for more.
 fn word_count(from: &impl Env) -> usize {
-    for place in 0..4 {
-        if !is_given(from, place) {
-            return place;
-        }
-    }
-    4
+    (0..4).take_while(|place| is_given(from, *place)).count()
 }
 
 // Puts the word at a place at the start of a room, and answers its length: 0 where it is missing or there is no room for it.
@@ -38,21 +32,19 @@ fn word_at(from: &impl Env, place: usize, room: &mut [u8]) -> usize
     from.arg(place, room).unwrap_or(0)
 }
 
-// Answers what the number of arguments and the second of them ask for; the program's own name is the first word.
-pub(crate) fn asked_for(from: &impl Env) -> Asked {
-    let words = word_count(from);
-    if words == 2 {
-        return Asked::File;
-    }
-    if words != 3 {
-        return Asked::Unknown;
-    }
+// Tells whether the second argument asks for the report.
+fn asks_report(from: &impl Env) -> bool {
     let mut word = [0u8; 6];
     let length = word_at(from, 2, &mut word);
-    if &word[..length] == b"report".as_slice() {
-        Asked::Report
-    } else {
-        Asked::Unknown
+    &word[..length] == b"report".as_slice()
+}
+
+// Answers what the number of arguments and the second of them ask for, if the program knows it; its own name is the first word.
+pub(crate) fn asked_for(from: &impl Env) -> Option<Output> {
+    match word_count(from) {
+        2 => Some(Output::File),
+        3 if asks_report(from) => Some(Output::Report),
+        _ => None,
     }
 }
 
@@ -60,23 +52,18 @@ pub(crate) fn asked_for(from: &impl Env) -> Asked {
 fn type_of(digit: u8) -> u8
     ensures { result ≡ type_named digit }
 {
-    if digit < b'1' {
-        return 0;
+    match digit {
+        b'1'..=b'8' => digit - b'0',
+        _ => 0,
     }
-    if digit > b'8' {
-        return 0;
-    }
-    digit - b'0'
 }
 
 // Puts the types that digits name in their places.
 fn name_types(word: &mut [u8])
     ensures { word.new ≡ types_named word.old }
 {
-    let mut p: usize = 0;
-    while p < word.len() {
-        word[p] = type_of(word[p]);
-        p += 1;
+    for byte in word.iter_mut() {
+        *byte = type_of(*byte);
     }
 }
 

@@ -6,10 +6,10 @@
 mod account;
 mod arguments;
 
-ghost use Rattle.std.specs.Prelude.{◌≡◌, ◌+◌, ◌≤◌, length};
-ghost use Rattle.repair.specs.Rooms.{records_taken, file_bytes};
+ghost use Rattle.std.specs.Prelude.{◌≡◌, ◌≤◌, length};
+ghost use Rattle.repair.specs.Rooms.{file_bytes};
 
-use arguments::Asked;
+use arguments::Output;
 
 // The most records of a file, ten times what a ledger takes: there is no heap.
 const RECORDS: usize = 12_000;
@@ -17,33 +17,20 @@ const RECORDS: usize = 12_000;
 // The bytes of the longest file.
 const FILE_BYTES: usize = record::BYTES * RECORDS;
 
-// Answers the room for a file put right.
-fn file_room() -> [u8; FILE_BYTES]
-    ensures { length result ≡ file_bytes }
-{
-    [0u8; FILE_BYTES]
-}
+const INPUT_BYTES: usize = FILE_BYTES + 1;
 
-// Answers the room for a report.
-fn report_room() -> [u8; RECORDS]
-    ensures { length result ≡ records_taken }
+// Answers so many bytes, all 0.
+fn room<const N: usize>() -> [u8; N]
+    ensures { length result ≡ N }
 {
-    [0u8; RECORDS]
-}
-
-// Answers the room for a file that is read: a byte more than the longest has, so that a longer one is seen to be longer.
-fn input_room() -> [u8; FILE_BYTES + 1]
-    ensures { length result ≡ file_bytes + 1 }
-{
-    [0u8; FILE_BYTES + 1]
+    [0; N]
 }
 
 // Writes the file, or the lines of its report, to standard output, and tells whether that went well; a failure is told on standard error.
-fn write_out(rt: &HostRuntime, reports: bool, file: &[u8], report: &[u8]) -> bool {
-    let written = if reports {
-        changes::print_report(rt, report)
-    } else {
-        rt.write_all(file)
+fn write_out(rt: &HostRuntime, output: Output, file: &[u8], report: &[u8]) -> bool {
+    let written = match output {
+        Output::File => rt.write_all(file),
+        Output::Report => changes::print_report(rt, report),
     };
     if let Err(error) = written {
         input::fail(&rt.stderr(), b"repair: standard output", error);
@@ -52,35 +39,29 @@ fn write_out(rt: &HostRuntime, reports: bool, file: &[u8], report: &[u8]) -> boo
 }
 
 // Puts a file right, and tells how that went; nothing is written of a refused one.
-fn put_right(rt: &HostRuntime, reports: bool, types: &[u8], file: &[u8])
+fn put_right(rt: &HostRuntime, output: Output, types: &[u8], file: &[u8])
     requires { length file.now ≤ file_bytes }
 {
-    let mut out = file_room();
-    let mut report = report_room();
+    let mut out: [u8; FILE_BYTES] = room();
+    let mut report: [u8; RECORDS] = room();
     let repaired = order::repair(types, file, &mut out, &mut report);
     let bytes = file.len();
     let records = bytes / record::BYTES;
-    if repaired.refusal == 0 {
-        if !write_out(rt, reports, &out[..bytes], &report[..records]) {
-            return;
-        }
+    if repaired.is_ok() && !write_out(rt, output, &out[..bytes], &report[..records]) {
+        return;
     }
-    account::tell_account(
-        &rt.stderr(),
-        records as u64,
-        repaired.changed,
-        repaired.refusal,
-    );
+    account::tell_account(&rt.stderr(), records as u64, repaired);
 }
 
 // Reads the order and the file, and puts the file right; a file that was not read to its end is only told of.
-fn put_input_right(rt: &HostRuntime, reports: bool) {
+fn put_input_right(rt: &HostRuntime, output: Output) {
     let mut types = [0u8; arguments::ORDER];
     let named = arguments::order_asked(rt, &mut types);
-    let mut file = input_room();
+    // a byte more than the longest file has, so that a longer one is seen to be longer
+    let mut file: [u8; INPUT_BYTES] = room();
     let input = input::read_all(&mut rt.stdin(), &mut file);
-    if input.failed {
-        input::fail(&rt.stderr(), b"repair: standard input", input.error);
+    if let Some(error) = input.failure {
+        input::fail(&rt.stderr(), b"repair: standard input", error);
         return;
     }
     let read = input.length;
@@ -88,14 +69,13 @@ fn put_input_right(rt: &HostRuntime, reports: bool) {
         account::tell_too_long(&rt.stderr(), RECORDS as u64);
         return;
     }
-    put_right(rt, reports, &types[..named], &file[..read]);
+    put_right(rt, output, &types[..named], &file[..read]);
 }
 
 // Does what the arguments ask for, or tells what they can be.
 fn main(rt: HostRuntime) {
     match arguments::asked_for(&rt) {
-        Asked::File => put_input_right(&rt, false),
-        Asked::Report => put_input_right(&rt, true),
-        Asked::Unknown => account::tell_usage(&rt.stderr()),
+        Some(output) => put_input_right(&rt, output),
+        None => account::tell_usage(&rt.stderr()),
     }
 }

@@ -1,3 +1,4 @@
 pub mod History
 pub mod OneRecord
 pub mod MidRun
+pub mod Numbers

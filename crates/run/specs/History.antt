@@ -6,8 +6,8 @@ use Rattle.record.specs.Fields.{record_bytes}
 use Rattle.ledger.specs.Step.{fresh, work_of}
 use Rattle.ledger.specs.Take.{take_of, output_record}
 use Rattle.ledger.specs.declared.book.Ledger.{Ledger}
-use Rattle.ledger.specs.declared.answer.Answer.{Answer}
-use Rattle.run.specs.declared.Outcome.{Outcome}
+use Rattle.ledger.specs.Answer.{Answer}
+use Rattle.run.specs.Outcome.{Outcome}
 
 -- Any bytes, offered as a record, with room for so many bytes of output.
 pub record Offer : Type 0 where

@@ -2,29 +2,51 @@
 // another, from any ledger.
 #![tactic(auto)]
 
-ghost use Rattle.std.specs.Prelude.{true, ◌≡◌, length, take};
+ghost use Rattle.std.specs.Prelude.{true, ℕ, ◌≡◌, ◌<◌, ◌≤◌, length, take};
 ghost use Rattle.numbers.specs.Eight.{eight};
 ghost use Rattle.record.specs.Fields.{record_bytes, kind_of, climate_of};
 ghost use Rattle.carbon.specs.Carbon.{entry_at};
 ghost use Rattle.ledger.specs.Step.{released_at};
 ghost use Rattle.ledger.specs.Refusal.{sound, refusal_of};
 ghost use Rattle.run.specs.History.{records_of, run_of, outcome_of, out_of};
+ghost use Rattle.run.specs.Outcome.{outcome_numbers, one_answer};
+ghost use Rattle.ledger.specs.Numbers.{answer_numbers};
+ghost use Rattle.refusal.specs.Numbers.{numbered};
 
-use ledger::{Ledger, are_sound};
+use ledger::{Ledger, Taken};
+use refusal::Refusal;
 
-// The ledger after the last accepted record, how many records were accepted, the refusal of the next one, 0 if none, and the decay
+// The ledger after the last accepted record, how many records were accepted, the refusal of the next one, if any, and the decay
 // work of the accepted ones.
 #[derive(Clone, Copy)]
-pub struct Outcome {
+pub struct RunEnd {
     pub ledger: Ledger,
     pub accepted: u64,
-    pub refusal: u8,
+    pub refusal: Option<Refusal>,
     pub work: u64,
 }
 
-// How many records were accepted, and the refusal of the next one.
-#[derive(Clone, Copy)]
-struct End(u64, u8);
+impl RunEnd {
+    // Answers what a run of one record from a ledger makes of the record: its releases are what was released since, and x0, figure and
+    // bound are read back from its output record. So the step's code is in a program once.
+    pub fn taken(self, before: Ledger, out: &[u8]) -> Result<Taken, Refusal>
+        requires out_value { numbered self.refusal ≡ 0 → 32 ≤ length out.now }
+        requires released_value { numbered self.refusal ≡ 0 → (t : ℕ) → t < 8 → released_at before t ≤ released_at self.ledger t }
+        ensures { answer_numbers before result ≡ one_answer before (outcome_numbers self) out.now }
+    {
+        if let Some(why) = self.refusal {
+            return Err(why);
+        }
+        let RunEnd { ledger, .. } = self;
+        Ok(Taken {
+            ledger,
+            releases: carbon::less(ledger.released, before.released),
+            x0: numbers::read::<8>(out, 8),
+            figure: numbers::read::<8>(out, 16),
+            bound: numbers::read::<8>(out, 24),
+        })
+    }
+}
 
 // Answers the table entries of a run: those of its first record, which every later accepted record shares.
 fn run_entries(ledger: Ledger, records: &[u8]) -> [u32; 8]
@@ -44,41 +66,21 @@ fn settled(ledger: Ledger, before: [u64; 8], accepted: u64) -> Ledger
     requires ledger_value { (accepted ≡ 0 → ⊥) → (sound ledger ≡ true) × (ledger.released ≡ eight (released_at ledger)) }
     ensures { result ≡ ledger }
 {
-    let year = ledger.year;
-    let brought = ledger.brought;
-    let stock = ledger.stock;
     let released = if accepted == 0 {
         before
     } else {
-        carbon::less(brought, stock)
+        carbon::less(ledger.brought, ledger.stock)
     };
-    Ledger {
-        n: ledger.n,
-        kind: ledger.kind,
-        climate: ledger.climate,
-        year,
-        brought,
-        stock,
-        released,
-    }
+    Ledger { released, ..ledger }
 }
 
 // Takes the records of a file one after another, writes the output record of each accepted one after the last, and stops at
 // the first that is refused; bytes left over that make no record are refused with 1. Also counts the decay work.
-pub fn run(ledger: Ledger, records: &[u8], out: &mut [u8]) -> Outcome
-    ensures value { result ≡ outcome_of (run_of ledger (records_of records.now) (length out.old)) }
+pub fn run(ledger: Ledger, records: &[u8], out: &mut [u8]) -> RunEnd
+    ensures value { outcome_numbers result ≡ outcome_of (run_of ledger (records_of records.now) (length out.old)) }
     ensures out_after { out.new ≡ out_of (run_of ledger (records_of records.now) (length out.old)) out.old }
 {
-    let year = ledger.year;
-    let good = are_sound(
-        ledger.n,
-        ledger.kind,
-        ledger.climate,
-        year,
-        &ledger.brought,
-        &ledger.stock,
-        &ledger.released,
-    );
+    let good = ledger.is_sound();
     let entries = run_entries(ledger, records);
     let reach = refusal::reach(records.len(), out.len());
     let first = ledger.n;
@@ -86,13 +88,13 @@ pub fn run(ledger: Ledger, records: &[u8], out: &mut [u8]) -> Outcome
     let mut ledger = ledger;
     let mut at: usize = 0;
     let mut work: u64 = 0;
-    let end = 'records: loop {
+    let (accepted, refusal) = 'records: loop {
         if at >= reach {
             let left = refusal::left_over(records.len() - at);
-            break 'records End((ledger.n - first) as u64, left);
+            break 'records ((ledger.n - first) as u64, left);
         }
         let bytes = &records[at..at + Ledger::BYTES];
-        let refusal = refusal::early(
+        let early = refusal::early(
             ledger.n,
             ledger.kind,
             ledger.climate,
@@ -101,25 +103,23 @@ pub fn run(ledger: Ledger, records: &[u8], out: &mut [u8]) -> Outcome
             bytes,
             Ledger::BYTES,
         );
-        if refusal != 0 {
-            break 'records End((ledger.n - first) as u64, refusal);
+        if let Some(why) = early {
+            break 'records ((ledger.n - first) as u64, Some(why));
         }
         for t in 0..8u8 {
             if !record::is_light(bytes, t) {
-                break 'records End((ledger.n - first) as u64, 9);
+                break 'records ((ledger.n - first) as u64, Some(Refusal::MassOverLimit));
             }
         }
         let entered = ledger.enter(entries, bytes, &mut out[at..at + Ledger::BYTES]);
-        let next = entered.ledger;
-        ledger = next;
+        ledger = entered.ledger;
         work += entered.work;
         at += Ledger::BYTES;
     };
-    let settled = settled(ledger, before, end.0);
-    Outcome {
-        ledger: settled,
-        accepted: end.0,
-        refusal: end.1,
+    RunEnd {
+        ledger: settled(ledger, before, accepted),
+        accepted,
+        refusal,
         work,
     }
 }

@@ -1,5 +1,5 @@
 -- The answer by what was tested: each refusal where those ahead of it are not there, and the masses where none is.
-use mathlib.Core.Path.{◌≡◌, refl, sym, ◌∙◌}
+use mathlib.Core.Path.{◌≡◌, refl, sym, ap, ◌∙◌}
 use mathlib.Core.Bool.{Bool, true, false, cond, ◌&&◌}
 use mathlib.Core.List.{List}
 use mathlib.Core.Logic.{◌⊎◌, inl, inr, ⊎_elim}
@@ -10,10 +10,14 @@ use lib.Dec.{eqb}
 use lib.ListN.{length, get_or}
 use Rattle.numbers.specs.Eight.{eight, sum_of, every_of}
 use Rattle.numbers.specs.Fault.{between, first_of}
-use Rattle.numbers.proofs.Eight.{eight_same, both_true, either_true}
+use Rattle.numbers.proofs.Eight.{eight_same, both_true, either_true, either_false}
 use Rattle.numbers.proofs.Fault.{between_low, between_high, clear}
+use Rattle.waste.specs.Kind.{is_kind}
 use Rattle.waste.specs.Waste.{mass_limit}
-use Rattle.samples.specs.Samples.{sample_bytes, whole_sample, least_samples, most_samples, month_samples, right_number, adds_up, number_of, mass_up_to, mass_of_type, sample_faults, sorted_into, unsorted, sorted_of}
+use Rattle.samples.specs.Samples.{sample_bytes, whole_sample, least_samples, most_samples, month_samples, right_number, adds_up, number_of, mass_up_to, mass_of_type, sample_faults, Sorted, sorted_into, unsorted, sorted_of, numbers_of}
+use Rattle.samples.specs.declared.SamplesRefusal.{SamplesRefusal}
+use Rattle.samples.specs.declared.SamplesRefusal.TheVariants.{TotalTooLarge, WrongNumber, NotWhole}
+use Rattle.std.proofs.Common.{Result, Ok, Err}
 use Rattle.samples.proofs.Laws.{of_place, by_type}
 
 -- A right number of samples is a year's or a month's.
@@ -25,6 +29,12 @@ year_or_month kind Z e =
     inl (eqb-true kind 1 both.0, between_low least_samples Z most_samples both.1, between_high least_samples Z most_samples both.1))
     (λ month. let both = both_true (eqb kind 2) (eqb Z month_samples) month in inr (eqb-true kind 2 both.0, eqb-true Z month_samples both.1))
     (either_true (eqb kind 1 && between least_samples Z most_samples) (eqb kind 2 && eqb Z month_samples) e)
+
+-- No number is right for what is no kind.
+pub no_kind : (kind Z : ℕ) → is_kind kind ≡ false → false ≡ right_number kind Z
+no_kind kind Z e =
+    let none = either_false (eqb kind 1) (eqb kind 2) e in
+    rw (none.0, none.1) refl
 
 -- Whether the bytes are the samples that the kind has to have.
 abbrev pub Right : (kind : ℕ) → List ℕ → Bool → Type 0
@@ -99,3 +109,17 @@ module _ (kind total : ℕ) (samples : List ℕ) where
   nothing_sorted bad =
       let there : first_of (sample_faults samples kind total) ≡ 0 → ⊥ = λ e. bad (sorted_refusal ∙ e) in
       rw (ne_eqb (first_of (sample_faults samples kind total)) 0 there)
+
+-- The case of the answer that has these numbers: so two cases with the same numbers are one.
+case_of : Sorted → Result (List ℕ) SamplesRefusal
+case_of n = cond (eqb n.refusal 14) (Err TotalTooLarge) (cond (eqb n.refusal 15) (Err WrongNumber) (cond (eqb n.refusal 16) (Err NotWhole) (Ok n.masses)))
+
+same_case : (answer : Result (List ℕ) SamplesRefusal) → case_of (numbers_of answer) ≡ answer
+unfolding case_of
+same_case (Ok masses) = refl
+same_case (Err TotalTooLarge) = refl
+same_case (Err WrongNumber) = refl
+same_case (Err NotWhole) = refl
+
+pub one_sorted : (n : Sorted) (a b : Result (List ℕ) SamplesRefusal) → numbers_of a ≡ n → numbers_of b ≡ n → a ≡ b
+one_sorted n a b p q = sym (same_case a) ∙ ap case_of (p ∙ sym q) ∙ same_case b

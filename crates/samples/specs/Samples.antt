@@ -1,11 +1,12 @@
 -- Document 02, request a, 'Masses from sorting samples': equations (5) to (8) of source 000, rounded so that nothing is lost.
-use Rattle.std.specs.Prelude.{Bool, cond, not, ◌&&◌, ◌||◌, List, [], ◌∷◌, ℕ, ◌+◌, ◌-◌, ◌*◌, ◌/◌, ◌%◌, eqb, ltb, length}
+use Rattle.std.specs.Prelude.{Bool, cond, not, ◌&&◌, ◌||◌, List, [], ◌∷◌, ℕ, ◌+◌, ◌-◌, ◌*◌, ◌/◌, ◌%◌, eqb, ltb, length, Result, Ok, Err}
 use Rattle.numbers.specs.Bytes.{number_at}
 use Rattle.numbers.specs.Eight.{eight, sum_of, every_of}
 use Rattle.numbers.specs.Fault.{Fault, ◌when◌, between, first_of}
 use Rattle.waste.specs.Kind.{yearly, monthly}
 use Rattle.waste.specs.Waste.{mass_limit}
-use Rattle.samples.specs.declared.Sorted.{Sorted}
+use Rattle.samples.specs.declared.SamplesRefusal.{SamplesRefusal}
+use Rattle.samples.specs.declared.SamplesRefusal.TheVariants.{TotalTooLarge, WrongNumber, NotWhole}
 
 -- A sample is eight fractions, of types 1 to 8, in 2 bytes each. Samples follow one another.
 abbrev pub sample_bytes : ℕ
@@ -63,6 +64,11 @@ module _ (samples : List ℕ) where
       ∷ 16 when not (every_of adds_up number_of)
       ∷ []
 
+-- An answer in numbers: the refusal's, 0 if none, and the masses of types 1 to 8 in kilograms, 0 if refused.
+pub record Sorted : Type 0 where
+  pub refusal : ℕ
+  pub masses : List ℕ
+
 -- Accepted, with the masses of types 1 to 8.
 abbrev pub sorted_into : (masses : List ℕ) → Sorted
 sorted_into masses = record { refusal = 0; masses = masses }
@@ -76,3 +82,13 @@ unfoldable pub sorted_of : (kind total : ℕ) → List ℕ → Sorted
 sorted_of kind total samples =
     let refusal = first_of (sample_faults samples kind total) in
     cond (eqb refusal 0) (sorted_into (eight (λ t. mass_of_type samples total (t + 1)))) (unsorted refusal)
+
+-- The number of each refusal, and the numbers of each case of the answer.
+abbrev pub refusal_number : SamplesRefusal → ℕ
+refusal_number TotalTooLarge = 14
+refusal_number WrongNumber = 15
+refusal_number NotWhole = 16
+
+abbrev pub numbers_of : Result (List ℕ) SamplesRefusal → Sorted
+numbers_of (Ok masses) = sorted_into masses
+numbers_of (Err why) = unsorted (refusal_number why)

@@ -2,10 +2,14 @@
 // It serves request a of document 02, and is called by the package whose operators weigh whole trucks and sort a few.
 #![tactic(auto)]
 
-ghost use Rattle.std.specs.Prelude.{true, ◌&&◌, ◌≡◌, ◌+◌, ◌-◌, ◌*◌, ◌/◌, ◌%◌, ◌≤◌, ◌<◌, eqb, length, get_or};
+ghost use Rattle.std.specs.Prelude.{true, ◌&&◌, ◌≡◌, ◌+◌, ◌-◌, ◌*◌, ◌/◌, ◌%◌, ◌≤◌, ◌<◌, eqb, cond, length, get_or};
 ghost use Rattle.numbers.specs.Eight.{eight, sum_of, every_of};
 ghost use Rattle.waste.specs.Waste.{mass_limit};
-ghost use Rattle.samples.specs.Samples.{sample_bytes, whole_sample, most_samples, right_number, fraction_at, adds_up, unsorted, sorted_of};
+ghost use Rattle.samples.specs.Samples.{sample_bytes, whole_sample, most_samples, right_number, fraction_at, adds_up, number_of, refusal_number, numbers_of, sorted_of};
+
+use std::error::Error;
+use std::{array, fmt};
+use waste::Kind;
 
 // The bytes of a sample.
 const BYTES: usize = 16;
@@ -20,27 +24,55 @@ const MOST_A_YEAR: u64 = 400;
 
 const A_MONTH: u64 = 3;
 
-// The number of the refusal, 0 if none, and the masses of types 1 to 8 in kilograms, 0 if refused.
-#[derive(Clone, Copy)]
-pub struct Sorted {
-    pub refusal: u8,
-    pub masses: [u32; 8],
+// Why a total or its samples are refused.
+#[derive(Clone, Copy, Debug, PartialEq, Eq)]
+pub enum SamplesRefusal {
+    TotalTooLarge,
+    WrongNumber,
+    NotWhole,
 }
 
-// The fractions of each type added over some samples, and whether the last of these adds up.
-#[derive(Clone, Copy)]
-struct Added {
-    fractions: [u32; 8],
-    whole: bool,
+impl SamplesRefusal {
+    // Answers the number of the refusal.
+    pub fn number(self) -> u8
+        ensures { result ≡ refusal_number self }
+    {
+        match self {
+            SamplesRefusal::TotalTooLarge => 14,
+            SamplesRefusal::WrongNumber => 15,
+            SamplesRefusal::NotWhole => 16,
+        }
+    }
 }
 
-// Answers a refusal.
-fn refuse(refusal: u8) -> Sorted
-    ensures { result ≡ unsorted refusal }
+impl fmt::Display for SamplesRefusal {
+    fn fmt<W: fmt::Write>(&self, f: &mut fmt::Formatter<W>) -> fmt::Result {
+        match self {
+            SamplesRefusal::TotalTooLarge => {
+                write!(f, "sorting samples: a total over 1,000,000,000 kg")
+            }
+            SamplesRefusal::WrongNumber => write!(
+                f,
+                "a kind that is neither year nor month, or not the samples that it has to have: 12 to 400 for a year, three for a month, all whole"
+            ),
+            SamplesRefusal::NotWhole => {
+                write!(f, "a sample whose fractions do not add up to 100 %")
+            }
+        }
+    }
+}
+
+impl Error for SamplesRefusal {}
+
+// Tells whether a year or a month has to have so many samples.
+#[tactic(auto, using(crate::proofs::Answer::no_kind))]
+fn is_enough(kind: u8, count: u64) -> bool
+    ensures { result ≡ right_number kind count }
 {
-    Sorted {
-        refusal,
-        masses: [0; 8],
+    match Kind::of(kind) {
+        Some(Kind::Yearly) => numbers::is_between(LEAST_A_YEAR, count, MOST_A_YEAR),
+        Some(Kind::Monthly) => count == A_MONTH,
+        None => false,
     }
 }
 
@@ -48,48 +80,51 @@ fn refuse(refusal: u8) -> Sorted
 fn is_right_number(kind: u8, bytes: usize) -> bool
     ensures { result ≡ (right_number kind (bytes / sample_bytes) && eqb (bytes % sample_bytes) 0) }
 {
-    let count = (bytes / BYTES) as u64;
-    let year = (kind == waste::YEARLY) & numbers::is_between(LEAST_A_YEAR, count, MOST_A_YEAR);
-    let month = (kind == waste::MONTHLY) & (count == A_MONTH);
-    (year | month) & (bytes % BYTES == 0)
+    is_enough(kind, (bytes / BYTES) as u64) & (bytes % BYTES == 0)
 }
 
-// Adds a sample to those before it, which all add up.
-fn add_sample(before: Added, samples: &[u8], n: usize) -> Added
-    requires n_lt_most_samples { (n < most_samples) × (sample_bytes * n + sample_bytes ≤ length samples.now) }
-    requires fractions_value { (before.fractions ≡ eight (λ t. sum_of (λ m. fraction_at samples.now m t) n)) × (every_of (adds_up samples.now) n ≡ true) }
-    ensures fractions_value_2 { result.fractions ≡ eight (λ t. sum_of (λ m. fraction_at samples.now m t) (n + 1)) }
-    ensures whole_value { result.whole ≡ adds_up samples.now n }
+// Answers the fractions of a sample.
+#[tactic(auto, unfolding(crate::specs::Samples::fraction_at))]
+fn fractions_of(sample: &[u8]) -> [u16; 8]
+    requires { length sample.now ≡ sample_bytes }
+    ensures { result ≡ eight (fraction_at sample.now 0) }
 {
-    let mut fractions = [0u32; 8];
-    let mut sum = 0u32;
-    for t in 0..8 {
-        let fraction = numbers::read::<2>(samples, BYTES * n + 2 * t) as u32;
-        fractions[t] = before.fractions[t] + fraction;
-        sum += fraction;
-    }
-    Added {
-        fractions,
-        whole: sum == WHOLE,
-    }
+    array::from_fn(|t| numbers::read::<2>(sample, 2 * t) as u16)
 }
 
-// Adds so many samples, up to the first that does not add up.
-fn add_samples(samples: &[u8], count: usize) -> Added
-    requires { (count ≤ most_samples) × (sample_bytes * count ≤ length samples.now) }
-    ensures whole_value { result.whole ≡ every_of (adds_up samples.now) count }
-    ensures fractions_value { result.whole ≡ true → result.fractions ≡ eight (λ t. sum_of (λ n. fraction_at samples.now n t) count) }
+// Adds fractions to those before them, type by type.
+fn add(before: [u32; 8], fractions: [u16; 8]) -> [u32; 8]
+    requires { (t : _) → t < 8 → get_or before t 0 ≤ whole_sample * most_samples }
+    ensures { result ≡ eight (λ t. get_or before t 0 + get_or fractions t 0) }
 {
-    let mut added = Added {
-        fractions: [0; 8],
-        whole: true,
-    };
-    let mut n = 0;
-    while n < count && added.whole {
-        added = add_sample(added, samples, n);
-        n += 1;
+    array::from_fn(|t| before[t] + fractions[t] as u32)
+}
+
+// Adds the fractions of a sample to those of the samples before it, or answers none where they do not add up.
+#[tactic(auto, unfolding(crate::specs::Samples::adds_up))]
+fn add_sample(before: [u32; 8], sample: &[u8]) -> Option<[u32; 8]>
+    requires sample_len { length sample.now ≡ sample_bytes }
+    requires before_small { (t : _) → t < 8 → get_or before t 0 ≤ whole_sample * most_samples }
+    ensures { result ≡ cond (adds_up sample.now 0) (Some (eight (λ t. get_or before t 0 + fraction_at sample.now 0 t))) None }
+{
+    let fractions = fractions_of(sample);
+    let sum: u32 = fractions.iter().map(|fraction| *fraction as u32).sum();
+    if sum != WHOLE {
+        return None;
     }
-    added
+    Some(add(before, fractions))
+}
+
+// Adds the fractions of some samples, or answers none where a sample does not add up.
+fn add_samples(samples: &[u8]) -> Option<[u32; 8]>
+    requires { length samples.now / sample_bytes ≤ most_samples }
+    ensures { result ≡ cond (every_of (adds_up samples.now) (number_of samples.now)) (Some (eight (λ t. sum_of (λ n. fraction_at samples.now n t) (number_of samples.now)))) None }
+{
+    let mut added = [0; 8];
+    for sample in samples.chunks_exact(BYTES) {
+        added = add_sample(added, sample)?;
+    }
+    Some(added)
 }
 
 // Parts a total by the fractions of each type, which are parts of a whole: a type's mass is what is reached with it, rounded down, less
@@ -101,32 +136,27 @@ fn part(total: u64, fractions: [u32; 8], whole: u64) -> [u32; 8]
     let mut masses = [0u32; 8];
     let mut parts = 0u64;
     let mut before = 0u64;
-    for t in 0..8 {
+    for (t, mass) in masses.iter_mut().enumerate() {
         parts += fractions[t] as u64;
         let reached = total * parts / whole;
-        masses[t] = (reached - before) as u32;
+        *mass = (reached - before) as u32;
         before = reached;
     }
     masses
 }
 
-// Answers the masses of the eight types, or refuses: 14 the total is too large, 15 the kind or the number of samples is not right, 16
-// a sample does not add up.
-pub fn masses(kind: u8, total: u64, samples: &[u8]) -> Sorted
-    ensures { result ≡ sorted_of kind total samples.now }
+// Answers the masses of the eight types, or refuses: a total that is too large, a kind or a number of samples that is not right, a
+// sample that does not add up, in that order. The kind is a byte, since a byte that is no kind is answered too, and only after the total.
+pub fn masses(kind: u8, total: u64, samples: &[u8]) -> Result<[u32; 8], SamplesRefusal>
+    ensures { numbers_of result ≡ sorted_of kind total samples.now }
 {
     if total > waste::MASS_LIMIT {
-        return refuse(14);
+        return Err(SamplesRefusal::TotalTooLarge);
     }
     if !is_right_number(kind, samples.len()) {
-        return refuse(15);
+        return Err(SamplesRefusal::WrongNumber);
     }
-    let count = samples.len() / BYTES;
-    let added = add_samples(samples, count);
-    if !added.whole {
-        return refuse(16);
-    }
-    let fractions = added.fractions;
-    let masses = part(total, fractions, WHOLE as u64 * count as u64);
-    Sorted { refusal: 0, masses }
+    let fractions = add_samples(samples).ok_or(SamplesRefusal::NotWhole)?;
+    let whole = WHOLE as u64 * (samples.len() / BYTES) as u64;
+    Ok(part(total, fractions, whole))
 }

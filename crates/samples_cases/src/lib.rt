@@ -4,14 +4,17 @@
 
 ghost use Rattle.std.specs.Prelude.{◌≡◌};
 
-use samples::Sorted;
+use samples::SamplesRefusal;
 
 // Prints the answer.
-fn put_sorted(rt: &impl Print, sorted: Sorted) {
-    let masses = sorted.masses;
-    print::number(rt, sorted.refusal as u64, b' ');
-    for t in 0..7 {
-        print::number(rt, masses[t] as u64, b' ');
+fn put_sorted(rt: &impl Print, answer: Result<[u32; 8], SamplesRefusal>) {
+    let (refusal, masses) = match answer {
+        Ok(masses) => (0, masses),
+        Err(why) => (why.number(), [0; 8]),
+    };
+    print::number(rt, refusal as u64, b' ');
+    for mass in &masses[..7] {
+        print::number(rt, *mass as u64, b' ');
     }
     print::number(rt, masses[7] as u64, b'\n');
 }

@@ -16,7 +16,7 @@ use Rattle.ledger.specs.Step.{fresh}
 use Rattle.ledger.specs.declared.book.Ledger.{Ledger}
 use Rattle.run.specs.History.{work_over, records_of, Run, run_of, out_of, outcome_of, whole_run}
 use Rattle.stretches.specs.Stretches.{stretch_bytes, stretch_end, stretch_run}
-use Rattle.run.specs.declared.Outcome.{Outcome}
+use Rattle.run.specs.Outcome.{Outcome}
 use Rattle.run.proofs.History.{no_records, records_split, records_count, on_from, run_ends, run_join, run_refused, run_roomy, Counts, run_counts, run_most, outputs_length, over_most, work_join}
 
 -- A stretch of a file from a place to its end: 32 records, or what is left.

@@ -4,10 +4,11 @@
 
 ghost use Rattle.std.specs.Prelude.{◌≡◌, ◌≤◌, length, drop};
 ghost use Rattle.run.specs.History.{outcome_of, out_of, whole_run};
+ghost use Rattle.run.specs.Outcome.{outcome_numbers};
 ghost use Rattle.stretches.specs.Stretches.{stretch_bytes, stretch_end, stretch_run};
 
 use ledger::Ledger;
-use run::Outcome;
+use run::RunEnd;
 
 // The bytes of a stretch, and of its output records.
 pub const STRETCH: usize = 32 * Ledger::BYTES;
@@ -24,10 +25,10 @@ pub fn stretch_end(file: &[u8], at: usize) -> usize
 }
 
 // Runs the stretch of a file that starts at a place, and writes its output records at the start of the output.
-pub fn run_stretch(ledger: Ledger, file: &[u8], at: usize, out: &mut [u8]) -> Outcome
+pub fn run_stretch(ledger: Ledger, file: &[u8], at: usize, out: &mut [u8]) -> RunEnd
     requires at_in_bounds { at ≤ length file.now }
     requires out_len { length out.old ≡ stretch_bytes }
-    ensures value { result ≡ outcome_of (stretch_run ledger (drop at file.now)) }
+    ensures value { outcome_numbers result ≡ outcome_of (stretch_run ledger (drop at file.now)) }
     ensures out_after { out.new ≡ out_of (stretch_run ledger (drop at file.now)) out.old }
 {
     let end = stretch_end(file, at);
@@ -36,26 +37,32 @@ pub fn run_stretch(ledger: Ledger, file: &[u8], at: usize, out: &mut [u8]) -> Ou
 
 // Answers the ledger, the number of accepted records, the refusal and the decay work of a file that is run from a fresh ledger with
 // room for every output record; the output records are not kept.
-pub fn whole_run(file: &[u8]) -> Outcome
-    ensures { result ≡ outcome_of (whole_run file.now) }
+pub fn whole_run(file: &[u8]) -> RunEnd
+    ensures { outcome_numbers result ≡ outcome_of (whole_run file.now) }
 {
     let mut out = [0u8; STRETCH];
     let mut ledger = Ledger::fresh();
     let mut at: usize = 0;
-    let mut refusal: u8 = 0;
     let mut work: u64 = 0;
-    while (refusal == 0) & (at < file.len()) {
+    while at < file.len() {
         let ran = run_stretch(ledger, file, at, &mut out);
         let next = ran.ledger;
         ledger = next;
-        refusal = ran.refusal;
         work += ran.work;
+        if let Some(why) = ran.refusal {
+            return RunEnd {
+                ledger,
+                accepted: ledger.n as u64,
+                refusal: Some(why),
+                work,
+            };
+        }
         at = stretch_end(file, at);
     }
-    Outcome {
+    RunEnd {
         ledger,
         accepted: ledger.n as u64,
-        refusal,
+        refusal: None,
         work,
     }
 }

@@ -8,9 +8,8 @@ use lib.ListN.{length}
 use Rattle.tunisia.specs.Years.{accepted_years, refusal_after}
 use Rattle.tunisia.specs.Reduction.{answer_over, no_answer, reduction_of}
 use Rattle.reductions.specs.Stretch.{all_grams, stretch_refusal, less_all}
-use Rattle.tunisia.specs.Walk.{taken_over}
+use Rattle.tunisia.specs.Walk.{taken_over, YearsTaken}
 use Rattle.reductions.specs.Year.{sums_of}
-use Rattle.tunisia.specs.declared.accepted.YearsTaken.{YearsTaken}
 
 module _ (file : List ℕ) (first last : ℕ) (electricity fuel : List ℕ) {taken : YearsTaken} {q : ℕ}
     (years : taken ≡ taken_over first last (accepted_years file) (refusal_after file)) (refusal : q ≡ stretch_refusal first last taken.years electricity fuel) where

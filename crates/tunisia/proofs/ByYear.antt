@@ -23,8 +23,8 @@ use Rattle.run.specs.History.{Turn, leading, ending, records_of, Run, run_of, wh
 use Rattle.run.proofs.History.{no_records, first_record_lem, begun_record, begun_refusal, accepted_turn, run_goes_on, run_stops, run_ends}
 use Rattle.tunisia.specs.Years.{refusal_by_year, turn_by_year, turns_by_year, accepted_years, refusal_after, years_from, years_of}
 use Rattle.reductions.specs.Year.{stretch_of, sums_of}
-use Rattle.tunisia.specs.Walk.{none_walked, taken_over, as_yearly}
-use Rattle.tunisia.specs.declared.accepted.YearsTaken.{YearsTaken}
+use Rattle.reductions.specs.declared.year.Sums.{Sums}
+use Rattle.tunisia.specs.Walk.{YearsTaken, taken_over, as_yearly}
 
 module _ (l : Ledger) (bytes : List ℕ) where
   abbrev faults : List Fault
@@ -183,10 +183,14 @@ first_run file some =
     ap (λ (k : ℕ). (run_of fresh (records_of bytes) k).refusal) room ∙ begun_refusal fresh bytes record_bytes (omega (arith, long)) (omega (arith, long))
 
 -- What the accepted years of a file are to their caller: none where the first record is monthly,
-pub months_taken : (first last : ℕ) (file : List ℕ) → is_monthly (kind_of file) ≡ true
-    → record { sums = none_walked.sums; years = 0; refused = as_yearly (refusal_of fresh (take record_bytes file) record_bytes) true } ≡ taken_over first last (accepted_years file) (refusal_after file)
-unfolding taken_over none_walked sums_of stretch_of years_of years_from
-months_taken first last file e = let none = monthly_file file e in rw (none.0, none.1)
+pub months_taken : (first last : ℕ) (file : List ℕ) {none : Sums} {q : ℕ} → is_monthly (kind_of file) ≡ true → none.reference ≡ 0 → none.project ≡ 0 → none.bound ≡ 0
+    → q ≡ refusal_of fresh (take record_bytes file) record_bytes
+    → record { sums = none; years = 0; refused = as_yearly q true } ≡ taken_over first last (accepted_years file) (refusal_after file)
+unfolding taken_over sums_of stretch_of years_of years_from
+months_taken first last file {none} e reference project bound q =
+    let no_years = monthly_file file e in
+    let no_sums : none ≡ record { reference = 0; project = 0; bound = 0 } = λ i. record { reference = reference i; project = project i; bound = bound i } in
+    rw (no_sums, q, no_years.0, no_years.1)
 
 -- else those of the run.
 pub years_taken : (first last : ℕ) (file : List ℕ) {ran : YearsTaken} {next : ℕ} → is_monthly (kind_of file) ≡ false

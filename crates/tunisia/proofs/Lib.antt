@@ -5,3 +5,4 @@ pub mod MidYears
 pub mod ByYear
 pub mod Answers
 pub mod Ranges
+pub mod OneReport

@@ -8,16 +8,18 @@ use native.Mathlib.Omega.{arith}
 use borrow.Author.Tests.{eq-eqb, ne_eqb}
 use lib.Dec.{eqb}
 use lib.ListN.{length, take, drop, length-drop, length-append}
+use Rattle.numbers.specs.Eight.{eight}
 use Rattle.record.specs.Fields.{record_bytes}
 use Rattle.carbon.specs.Carbon.{most_records}
 use Rattle.ledger.specs.Step.{fresh}
 use Rattle.ledger.specs.declared.book.Ledger.{Ledger}
 use Rattle.ledger.proofs.Sound.{sound_is}
 use Rattle.run.specs.History.{Turn, outputs, records_of, Run, out_of, outcome_of, whole_run}
-use Rattle.run.specs.declared.Outcome.{Outcome}
+use Rattle.run.specs.Outcome.{Outcome}
 use Rattle.run.proofs.History.{no_records, on_from, run_ends}
 use Rattle.stretches.specs.Stretches.{stretch_bytes, stretch_run}
 use Rattle.stretches.proofs.Stretches.{rest_run, output_fits, output_size, goes_on, ends_here}
+use Rattle.reductions.specs.declared.year.Sums.{Sums}
 use Rattle.tunisia.specs.Walk.{none_walked, walked_over, AllReady, taken_over, SumsFit}
 use Rattle.tunisia.specs.declared.year.Walked.{Walked}
 use Rattle.tunisia.proofs.Walks.{Walks, walk_starts, walk_fits}
@@ -34,10 +36,12 @@ pub record MidYears (first last : ℕ) (file : List ℕ) (l : Ledger) (w : Walke
   pub walks : Walks first last done l w
   pub so_far : whole_run file ≡ whole_from refusal done l (drop at file)
 
-pub years_start : (first last : ℕ) (file : List ℕ) → MidYears first last file fresh none_walked 0 0
-unfolding whole_run
-years_start first last file =
-    record { done = []; in_file = omega arith; passed = omega arith; walks = walk_starts first last; so_far = refl }
+pub years_start : (first last : ℕ) (file : List ℕ) {sums : Sums} → sums.reference ≡ 0 → sums.project ≡ 0 → sums.bound ≡ 0
+    → MidYears first last file fresh (record { n = 0; x0 = 0; brought = eight (λ t. 0); sums = sums }) 0 0
+unfolding whole_run none_walked
+years_start first last file {sums} reference project bound =
+    let none : sums ≡ none_walked.sums = λ i. record { reference = reference i; project = project i; bound = bound i } in
+    rw none (record { done = []; in_file = omega arith; passed = omega arith; walks = walk_starts first last; so_far = refl })
 
 -- A stretch from where no refusal is.
 module _ {first last : ℕ} {file : List ℕ} {l : Ledger} {w : Walked} {at : ℕ} (h : MidYears first last file l w at 0) where

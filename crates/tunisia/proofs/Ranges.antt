@@ -17,11 +17,10 @@ use Rattle.ledger.specs.Step.{fresh}
 use Rattle.ledger.proofs.Sound.{sound_is}
 use Rattle.run.specs.History.{Turn, records_of, whole_run}
 use Rattle.tunisia.specs.Years.{accepted_years, years_from, years_of}
-use Rattle.tunisia.specs.Reduction.{answer_over, no_answer, reduction_of}
+use Rattle.tunisia.specs.Reduction.{answer_over, no_answer, reduction_of, Reduction}
 use Rattle.reductions.specs.Stretch.{all_grams, stretch_refusal, less_all}
 use Rattle.reductions.specs.Year.{reference_of, project_of, stretch_of, sums_of}
 use Rattle.tunisia.specs.Walk.{none_walked, SumsFit}
-use Rattle.tunisia.specs.declared.Reduction.{Reduction}
 use Rattle.reductions.proofs.Sizes.{less_most}
 use Rattle.reductions.proofs.Entries.{light_most, entries_light, entries_count}
 use Rattle.tunisia.proofs.Walks.{walk_starts, walk_fits}

@@ -1,10 +1,20 @@
 -- Document 02, request i: the answer over a stretch of the accepted years of a file.
-use Rattle.std.specs.Prelude.{cond, List, ℕ, eqb, pos, length}
+use Rattle.std.specs.Prelude.{cond, List, ℕ, eqb, ℤ, pos, length}
 use Rattle.numbers.specs.Lists.{added}
 use Rattle.reductions.specs.Year.{Year, reference_of, project_of, bounds_of, stretch_of}
 use Rattle.reductions.specs.Stretch.{all_grams, stretch_refusal, less_all}
 use Rattle.tunisia.specs.Years.{accepted_years, refusal_after, years_of}
-use Rattle.tunisia.specs.declared.Reduction.{Reduction}
+
+-- The refusal of the stretch, 0 if none; reference, project, reduction and bound in grams CO2e; how many years were accepted, and the
+-- refusal of the record after them, 0 if none.
+pub record Reduction : Type 0 where
+  pub refusal : ℕ
+  pub reference : ℕ
+  pub project : ℕ
+  pub reduction : ℤ
+  pub bound : ℕ
+  pub years : ℕ
+  pub refused : ℕ
 
 -- 'it answers reference, project, reduction and bound, the figures added over the stretch'; of a refused one 'all four answers 0'.
 unfoldable pub answer_over : List Year → (electricity fuel : List ℕ) → (years refused : ℕ) → Reduction

@@ -11,7 +11,6 @@ use Rattle.run.specs.History.{Turn}
 use Rattle.reductions.specs.Year.{Year, stretch_of, sums_of, with_year}
 use Rattle.reductions.specs.declared.year.Sums.{Sums}
 use Rattle.tunisia.specs.Years.{years_of}
-use Rattle.tunisia.specs.declared.accepted.YearsTaken.{YearsTaken}
 use Rattle.tunisia.specs.declared.year.Walked.{Walked}
 
 -- The year of the record that comes after so many.
@@ -57,6 +56,12 @@ as_yearly refusal is_monthly = cond (is_monthly && (eqb refusal 0 || ltb 5 refus
 -- No year yet.
 unfoldable pub none_walked : Walked
 none_walked = record { n = 0; x0 = 0; brought = eight (λ t. 0); sums = record { reference = 0; project = 0; bound = 0 } }
+
+-- What the years of a stretch add up to, how many years were accepted, and the refusal of the record after them, 0 if none.
+pub record YearsTaken : Type 0 where
+  pub sums : Sums
+  pub years : ℕ
+  pub refused : ℕ
 
 -- What some accepted years are to their caller, with the refusal of the record after them.
 unfoldable pub taken_over : (first last : ℕ) → List Turn → (refused : ℕ) → YearsTaken

@@ -3,116 +3,116 @@ ghost use Rattle.std.specs.Prelude.{◌≡◌, ◌*◌, ◌≤◌, ◌<◌, leng
 ghost use Rattle.waste.specs.Kind.{is_monthly};
 ghost use Rattle.record.specs.Fields.{record_bytes};
 ghost use Rattle.carbon.specs.Carbon.{most_records};
+ghost use Rattle.refusal.specs.Numbers.{numbered};
 ghost use Rattle.ledger.specs.Step.{fresh};
 ghost use Rattle.ledger.specs.Refusal.{refusal_of};
 ghost use Rattle.run.specs.History.{whole_run};
 ghost use Rattle.tunisia.specs.Years.{accepted_years, refusal_after};
-ghost use Rattle.tunisia.specs.Walk.{none_walked, taken_over, SumsFit, as_yearly};
+ghost use Rattle.tunisia.specs.Walk.{taken_over, SumsFit, as_yearly};
+ghost use Rattle.tunisia.specs.Taken.{taken_numbers};
 
 use crate::year::{Walked, walk_over};
 use ledger::Ledger;
-use reductions::Sums;
+use reductions::{Stretch, Sums};
+use refusal::Refusal;
+use waste::Kind;
 
-// What the years of the stretch add up to, how many years were accepted, and the refusal of the record after them, 0 if none.
+// What the years of the stretch add up to, how many years were accepted, and the refusal of the record after them, if any.
 #[derive(Clone, Copy)]
-pub struct YearsTaken {
+pub struct Taken {
     pub sums: Sums,
     pub years: u64,
-    pub refused: u8,
+    pub refused: Option<Refusal>,
 }
 
-// Answers the refusal of a record in this mode, given its refusal in a run with room for its output, and its kind. The tests before 6
-// have the numbers up to 5.
-#[tactic(auto, unfolding(crate::specs::Walk::as_yearly))]
-fn as_yearly(refusal: u8, kind: u8) -> u8
-    ensures { result ≡ as_yearly refusal (is_monthly kind) }
+// Tells whether a code is that of a monthly record.
+#[tactic(auto, using(std::proofs::lemmas::Bool::Decides::nat_tests))]
+fn is_monthly(kind: u8) -> bool
+    ensures { result ≡ is_monthly kind }
 {
-    if (kind == waste::MONTHLY) & ((refusal == 0) | (refusal > 5)) {
-        return 23;
-    }
-    refusal
+    Kind::of(kind) == Some(Kind::Monthly)
 }
 
-// Answers that no year was walked over.
-#[tactic(auto, unfolding(crate::specs::Walk::none_walked))]
-fn none_walked() -> Walked
-    ensures { result ≡ none_walked }
+// Answers the refusal of a record in this mode, given its refusal in a run with room for its output, and whether it is monthly. The
+// tests before 6 have the numbers up to 5; by the enum's order 28 would be one of them too.
+#[tactic(auto, using(refusal::proofs::Numbers::number_not_zero), unfolding(crate::specs::Walk::as_yearly))]
+fn as_yearly(refusal: Option<Refusal>, monthly: bool) -> Option<Refusal>
+    ensures { numbered result ≡ as_yearly (numbered refusal) monthly }
 {
-    let sums = Sums {
-        reference: 0,
-        project: 0,
-        bound: 0,
+    let Some(why) = refusal else {
+        return monthly.then_some(Refusal::MonthlyRecord);
     };
-    Walked {
-        n: 0,
-        x0: 0,
-        brought: [0; 8],
-        sums,
+    if monthly && why.number() > 5 {
+        return Some(Refusal::MonthlyRecord);
     }
+    Some(why)
 }
 
 // Runs a file from a fresh ledger, stretch by stretch, and walks over the accepted records; the refusal is the run's.
-fn run_years(file: &[u8], first: u64, last: u64) -> YearsTaken
-    ensures value { result ≡ taken_over first last (whole_run file.now).accepted (whole_run file.now).refusal }
+fn run_years(file: &[u8], stretch: Stretch) -> Taken
+    ensures value { taken_numbers result ≡ taken_over stretch.first stretch.last (whole_run file.now).accepted (whole_run file.now).refusal }
     ensures sums_fit { (SumsFit result.sums) × (record_bytes * result.years ≤ length file.now) × (result.years ≤ most_records) }
 {
     let mut out = [0u8; stretches::STRETCH];
     let mut ledger = Ledger::fresh();
-    let mut walked = none_walked();
+    let mut walked = Walked {
+        n: 0,
+        x0: 0,
+        brought: [0; 8],
+        sums: Sums::default(),
+    };
     let mut at: usize = 0;
-    let mut refusal: u8 = 0;
-    while (refusal == 0) & (at < file.len()) {
+    // no range: the next place is the end of a stretch, as in `stretches::whole_run`
+    while at < file.len() {
         let ran = stretches::run_stretch(ledger, file, at, &mut out);
         let end = stretches::stretch_end(file, at);
-        let on = walk_over(walked, &file[at..end], &out, ran.accepted, first, last);
+        let on = walk_over(walked, &file[at..end], &out, ran.accepted, stretch);
         walked = on;
+        if let Some(why) = ran.refusal {
+            return Taken {
+                sums: on.sums,
+                years: on.n as u64,
+                refused: Some(why),
+            };
+        }
         let next = ran.ledger;
         ledger = next;
-        refusal = ran.refusal;
         at = end;
     }
-    let sums = walked.sums;
-    YearsTaken {
-        sums,
+    Taken {
+        sums: walked.sums,
         years: walked.n as u64,
-        refused: refusal,
+        refused: None,
     }
 }
 
-// Answers the refusal of the first record of a file in a run from a fresh ledger, 0 if none.
-fn first_refusal(file: &[u8]) -> u8
+// Answers the refusal of the first record of a file in a run from a fresh ledger.
+fn first_refusal(file: &[u8]) -> Option<Refusal>
     requires { 0 < length file.now }
-    ensures { result ≡ refusal_of fresh (take record_bytes file.now) record_bytes }
+    ensures { numbered result ≡ refusal_of fresh (take record_bytes file.now) record_bytes }
 {
-    let end = if file.len() < record::BYTES {
-        file.len()
-    } else {
-        record::BYTES
-    };
-    run_years(&file[..end], 1, 0).refused
+    let end = record::BYTES.min(file.len());
+    run_years(&file[..end], Stretch { first: 1, last: 0 }).refused
 }
 
 // Answers the accepted years of a file, none where its first record is monthly, and what those of the stretch add up to.
-#[tactic(auto, using(crate::proofs::ByYear::months_taken), unfolding(crate::specs::Walk::none_walked))]
-pub(crate) fn accepted_years(file: &[u8], first: u64, last: u64) -> YearsTaken
-    ensures value { result ≡ taken_over first last (accepted_years file.now) (refusal_after file.now) }
+pub(crate) fn accepted_years(file: &[u8], stretch: Stretch) -> Taken
+    ensures value { taken_numbers result ≡ taken_over stretch.first stretch.last (accepted_years file.now) (refusal_after file.now) }
     ensures sums_fit { (SumsFit result.sums) × (result.years ≤ most_records) }
 {
-    if record::kind(file) == waste::MONTHLY {
-        let none = none_walked();
-        let sums = none.sums;
-        return YearsTaken {
-            sums,
+    let kind = record::kind(file);
+    if is_monthly(kind) {
+        return Taken {
+            sums: Sums::default(),
             years: 0,
-            refused: as_yearly(first_refusal(file), waste::MONTHLY),
+            refused: as_yearly(first_refusal(file), true),
         };
     }
-    let ran = run_years(file, first, last);
-    let sums = ran.sums;
+    let ran = run_years(file, stretch);
     let next = record::kind(&file[record::BYTES * ran.years as usize..]);
-    YearsTaken {
-        sums,
-        years: ran.years,
-        refused: as_yearly(ran.refused, next),
+    let next_monthly = is_monthly(next);
+    Taken {
+        refused: as_yearly(ran.refused, next_monthly),
+        ..ran
     }
 }

@@ -8,44 +8,44 @@ mod year;
 ghost use Rattle.std.specs.Prelude.{◌≡◌, ◌*◌, ◌^◌, ◌≤◌};
 ghost use Rattle.std.specs.Int.Signed.{mag};
 ghost use Rattle.tunisia.specs.Reduction.{reduction_of};
+ghost use Rattle.tunisia.specs.Numbers.{numbers_of};
 
 use accepted::accepted_years;
-use reductions::{all_grams, less_all, stretch_refusal};
+use reductions::{Stretch, StretchRefusal, all_grams, less_all};
+use refusal::Refusal;
 
-// The refusal of the stretch, 0 if none; reference, project, reduction and bound in grams CO2e; how many years were accepted, and the
-// refusal of the record after them, 0 if none.
-#[derive(Clone, Copy)]
-pub struct Reduction {
-    pub refusal: u8,
+// Reference, project, reduction and bound of a stretch in grams CO2e.
+#[derive(Clone, Copy, Debug, PartialEq, Eq)]
+pub struct Amounts {
     pub reference: u64,
     pub project: u64,
     pub reduction: i64,
     pub bound: u64,
-    pub years: u64,
-    pub refused: u8,
 }
 
-// Answers reference, project, reduction and bound over the years first to last of a file of yearly records, with the grams CO2e of
-// electricity and fuel of each of these years; or refuses the stretch with 24 or 25.
+// The amounts of a stretch, or why it is refused; how many years were accepted, and the refusal of the record after them, if any.
+#[derive(Clone, Copy, Debug, PartialEq, Eq)]
+pub struct YearsReport {
+    pub amounts: Result<Amounts, StretchRefusal>,
+    pub years: u64,
+    pub refused: Option<Refusal>,
+}
+
+// Answers reference, project, reduction and bound over the years of a stretch of a file of yearly records, with the grams CO2e of
+// electricity and fuel of each of these years; or refuses the stretch. The two lists stay apart, as a caller in C has them.
 pub fn reduction_over(
     file: &[u8],
-    first: u64,
-    last: u64,
+    stretch: Stretch,
     electricity: &[u64],
     fuel: &[u64],
-) -> Reduction
-    ensures value { result ≡ reduction_of file.now first last electricity.now fuel.now }
-    ensures reduction_bound { mag result.reduction ≤ 72 * 10 ^ 17 }
+) -> YearsReport
+    ensures value { numbers_of result ≡ reduction_of file.now stretch.first stretch.last electricity.now fuel.now }
+    ensures reduction_bound { mag (numbers_of result).reduction ≤ 72 * 10 ^ 17 }
 {
-    let accepted = accepted_years(file, first, last);
-    let refusal = stretch_refusal(first, last, accepted.years, electricity, fuel);
-    if refusal != 0 {
-        return Reduction {
-            refusal,
-            reference: 0,
-            project: 0,
-            reduction: 0,
-            bound: 0,
+    let accepted = accepted_years(file, stretch);
+    if let Err(why) = stretch.check(accepted.years, electricity, fuel) {
+        return YearsReport {
+            amounts: Err(why),
             years: accepted.years,
             refused: accepted.refused,
         };
@@ -57,12 +57,13 @@ pub fn reduction_over(
         all_grams(electricity),
         all_grams(fuel),
     );
-    Reduction {
-        refusal: 0,
-        reference: sums.reference,
-        project: sums.project,
-        reduction,
-        bound: sums.bound,
+    YearsReport {
+        amounts: Ok(Amounts {
+            reference: sums.reference,
+            project: sums.project,
+            reduction,
+            bound: sums.bound,
+        }),
         years: accepted.years,
         refused: accepted.refused,
     }

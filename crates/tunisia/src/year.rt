@@ -6,7 +6,8 @@ ghost use Rattle.carbon.specs.Carbon.{most_brought};
 ghost use Rattle.tunisia.specs.Walk.{walked_on, walked_over, Ready, AllReady};
 
 use record::Factors;
-use reductions::Sums;
+use reductions::{Stretch, Sums};
+use std::array;
 
 // Some years of a file, from its first on: how many, x0 of the last and T of the eight types after it in mg, and what those of the
 // stretch add up to.
@@ -23,22 +24,17 @@ fn deposited(brought: [u64; 8], bytes: &[u8]) -> [u64; 8]
     requires { (t : ℕ) → (t < 8 → get_or brought t 0 + deposit_of bytes.now t ≤ most_brought) }
     ensures { result ≡ eight (λ t. get_or brought t 0 + deposit_of bytes.now t) }
 {
-    let mut all = [0u64; 8];
-    for t in 0..8 {
-        all[t] = brought[t] + record::deposit(bytes, t as u8);
-    }
-    all
+    array::from_fn(|t| brought[t] + record::deposit(bytes, t as u8))
 }
 
 // Answers the years with one record more, whose x0 is known.
-fn walk_on(walked: Walked, bytes: &[u8], x0: u64, first: u64, last: u64) -> Walked
+fn walk_on(walked: Walked, bytes: &[u8], x0: u64, stretch: Stretch) -> Walked
     requires { Ready walked bytes.now }
-    ensures { result ≡ walked_on first last walked bytes.now x0 }
+    ensures { result ≡ walked_on stretch.first stretch.last walked bytes.now x0 }
 {
     let brought = walked.brought;
     let before = walked.sums;
-    let year = walked.n as u64 + 1;
-    let sums = if numbers::is_between(first, year, last) {
+    let sums = if stretch.contains(walked.n as u64 + 1) {
         reductions::with_year(
             before,
             Factors::of(bytes),
@@ -62,22 +58,18 @@ pub(crate) fn walk_over(
     file: &[u8],
     out: &[u8],
     count: u64,
-    first: u64,
-    last: u64,
+    stretch: Stretch,
 ) -> Walked
     requires count_in_bounds { (record_bytes * count ≤ length file.now) × (record_bytes * count ≤ length out.now) }
-    requires all_ready { AllReady first last count walked file.now out.now }
-    ensures { result ≡ walked_over first last count walked file.now out.now }
+    requires all_ready { AllReady stretch.first stretch.last count walked file.now out.now }
+    ensures { result ≡ walked_over stretch.first stretch.last count walked file.now out.now }
 {
     let mut walked = walked;
-    let mut at: usize = 0;
-    let mut left = count;
-    while left > 0 {
+    for place in 0..count as usize {
+        let at = record::BYTES * place;
         let x0 = numbers::read::<8>(out, at + 8);
-        let next = walk_on(walked, &file[at..at + record::BYTES], x0, first, last);
+        let next = walk_on(walked, &file[at..at + record::BYTES], x0, stretch);
         walked = next;
-        at += record::BYTES;
-        left -= 1;
     }
     walked
 }

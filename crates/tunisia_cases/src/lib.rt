@@ -3,9 +3,10 @@
 #![tactic(auto)]
 
 ghost use Rattle.std.specs.Prelude.{◌≡◌, ◌+◌, ◌-◌, ◌*◌, ◌^◌, ◌≤◌, ◌<◌, length};
-ghost use Rattle.std.specs.Int.Signed.{mag};
 
-use tunisia::Reduction;
+use reductions::Stretch;
+use std::array;
+use tunisia::YearsReport;
 
 // What comes before the grams: the first and the last year in 8 bytes each, and in 2 bytes each how many entries of electricity and of
 // fuel are lent, and how many grams follow.
@@ -18,11 +19,7 @@ const ENTRIES: usize = 1300;
 fn entries_of(asked: u64) -> usize
     ensures { result ≤ 1300 }
 {
-    if asked < ENTRIES as u64 {
-        asked as usize
-    } else {
-        ENTRIES
-    }
+    asked.min(ENTRIES as u64) as usize
 }
 
 // Answers how many grams follow the head of a payload: as many as it says, or as there are.
@@ -31,8 +28,7 @@ fn grams_in(payload: &[u8]) -> usize
     ensures { 22 + 8 * result ≤ length payload.now }
 {
     let there = (payload.len() - HEAD) / 8;
-    let asked = numbers::read::<2>(payload, 20) as usize;
-    if asked < there { asked } else { there }
+    there.min(numbers::read::<2>(payload, 20) as usize)
 }
 
 // Answers grams of a payload by their number: after the last comes the first again, and where there are none each is 0.
@@ -48,38 +44,37 @@ fn gram(payload: &[u8], grams: usize, number: usize) -> u64
 // Answers entries that take the grams of a payload in turn, from a number on.
 fn entries_from(payload: &[u8], grams: usize, from: usize) -> [u64; ENTRIES]
     requires { (22 + 8 * grams ≤ length payload.now) × (from ≤ 1300) }
-    ensures { length result ≡ 1300 }
 {
-    let mut entries = [0u64; ENTRIES];
-    for i in 0..ENTRIES {
-        entries[i] = gram(payload, grams, from + i);
-    }
-    entries
+    array::from_fn(|i| gram(payload, grams, from + i))
 }
 
-// Prints a signed number and a space; the least that there is has no number of its size.
-fn put_signed(rt: &impl Print, z: i64)
-    requires { mag z < 2 ^ 63 - 1 }
-{
+// Prints a signed number and a space.
+fn put_signed(rt: &impl Print, z: i64) {
     if z < 0 {
         print::text(rt, b"-");
-        print::number(rt, (0 - z) as u64, b' ');
-        return;
     }
-    print::number(rt, z as u64, b' ');
+    print::number(rt, z.unsigned_abs(), b' ');
 }
 
-// Prints an answer.
-fn put_reduction(rt: &impl Print, of: Reduction)
-    requires { mag «of».reduction < 2 ^ 63 - 1 }
-{
-    print::number(rt, of.refusal as u64, b' ');
-    print::number(rt, of.reference, b' ');
-    print::number(rt, of.project, b' ');
-    put_signed(rt, of.reduction);
-    print::number(rt, of.bound, b' ');
-    print::number(rt, of.years, b' ');
-    print::number(rt, of.refused as u64, b'\n');
+// Prints an answer: a refused stretch has four zeros.
+fn put_report(rt: &impl Print, report: YearsReport) {
+    match report.amounts {
+        Ok(all) => {
+            print::number(rt, 0, b' ');
+            print::number(rt, all.reference, b' ');
+            print::number(rt, all.project, b' ');
+            put_signed(rt, all.reduction);
+            print::number(rt, all.bound, b' ');
+        }
+        Err(why) => {
+            print::number(rt, why.number() as u64, b' ');
+            for _ in 0..4 {
+                print::number(rt, 0, b' ');
+            }
+        }
+    }
+    print::number(rt, report.years, b' ');
+    print::number(rt, refusal::number_or_zero(report.refused) as u64, b'\n');
 }
 
 // Prints the reduction of a file over the years of a case.
@@ -94,12 +89,14 @@ pub fn reduction(rt: &impl Print, payload: &[u8])
     let electricity = entries_from(payload, grams, 0);
     let fuel_count = entries_of(numbers::read::<2>(payload, 18));
     let fuel = entries_from(payload, grams, electricity_count);
-    put_reduction(
+    put_report(
         rt,
         tunisia::reduction_over(
             &payload[HEAD + 8 * grams..],
-            numbers::read::<8>(payload, 0),
-            numbers::read::<8>(payload, 8),
+            Stretch {
+                first: numbers::read::<8>(payload, 0),
+                last: numbers::read::<8>(payload, 8),
+            },
             &electricity[0..electricity_count],
             &fuel[0..fuel_count],
         ),

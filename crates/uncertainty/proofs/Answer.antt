@@ -1,16 +1,18 @@
 -- The answers by what was tested: each refusal where those ahead of it are not there, and the factor where none is; and what they then say.
-use mathlib.Core.Path.{◌≡◌, refl}
+use mathlib.Core.Path.{◌≡◌, refl, sym, ap, ◌∙◌}
 use mathlib.Core.Bool.{Bool, true, false, cond}
 use mathlib.Core.List.{List}
 use Prim.Native.Nat.{ℕ, zero, suc, ◌≤◌}
 use native.Mathlib.Omega.{arith}
 use borrow.Author.Tests.{ne_eqb, le-leb, not-false}
 use lib.Dec.{eqb, lit≤}
+use Rattle.std.proofs.Common.{Result, Ok, Err}
 use Rattle.numbers.specs.Fault.{Fault, first_of}
 use Rattle.numbers.proofs.Fault.{clear}
-use Rattle.uncertainty.specs.Uncertainty.{are_percentages, squares_of, factor_for, are_codes, chosen, chosen_by, both_entered, percentage_faults, code_faults, no_factor, unless, by_percentages, by_codes}
+use Rattle.uncertainty.specs.Uncertainty.{are_percentages, squares_of, factor_for, are_codes, chosen, chosen_by, both_entered, percentage_faults, code_faults, ModelFactor, no_factor, unless, by_percentages, by_codes, numbers_of}
 use Rattle.uncertainty.specs.declared.Uncertainties.{Uncertainties}
-use Rattle.uncertainty.specs.declared.ModelFactor.{ModelFactor}
+use Rattle.uncertainty.specs.declared.FactorRefusal.{FactorRefusal}
+use Rattle.uncertainty.specs.declared.FactorRefusal.TheVariants.{PercentageTooLarge, UnknownCode}
 
 module _ (u : Uncertainties) where
   pub percentage_over : are_percentages u ≡ false → no_factor 18 ≡ by_percentages u
@@ -71,3 +73,20 @@ unfolding chosen_by
 chosen_entered u t =
     all_entered (chosen_by u) t (small u.c (lit≤ tt) (lit≤ tt)) (small u.d (lit≤ tt) (lit≤ tt))
     (small u.e (lit≤ tt) (lit≤ tt)) (small u.g (lit≤ tt) (lit≤ tt))
+
+-- With a fault the factor is 0.
+pub none_found : (faults : List Fault) (answer : ModelFactor) → (first_of faults ≡ 0 → ⊥) → (unless faults answer).factor ≡ 0
+none_found faults answer there = rw (ne_eqb (first_of faults) 0 there) refl
+
+-- The case of the answer that has these numbers: so two cases with the same numbers are one.
+case_of : ModelFactor → Result ℕ FactorRefusal
+case_of n = cond (eqb n.refusal 18) (Err PercentageTooLarge) (cond (eqb n.refusal 19) (Err UnknownCode) (Ok n.factor))
+
+same_case : (answer : Result ℕ FactorRefusal) → case_of (numbers_of answer) ≡ answer
+unfolding case_of
+same_case (Ok factor) = refl
+same_case (Err PercentageTooLarge) = refl
+same_case (Err UnknownCode) = refl
+
+pub one_factor : (n : ModelFactor) (a b : Result ℕ FactorRefusal) → numbers_of a ≡ n → numbers_of b ≡ n → a ≡ b
+one_factor n a b p q = sym (same_case a) ∙ ap case_of (p ∙ sym q) ∙ same_case b

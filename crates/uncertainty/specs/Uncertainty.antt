@@ -1,9 +1,12 @@
 -- Document 02, request d, 'Work out the correction factor from uncertainties': option 2 of source 000, its equations (3) and (4) and its
 -- Table 3, which the request calls table 2.
-use Rattle.std.specs.Prelude.{Bool, cond, not, ◌&&◌, ◌||◌, List, [], ◌∷◌, ℕ, zero, suc, ◌+◌, ◌-◌, ◌*◌, ◌≤◌, eqb, leb}
+use Rattle.std.specs.Prelude.{Bool, cond, not, ◌&&◌, ◌||◌, List, [], ◌∷◌, ℕ, zero, suc, ◌+◌, ◌-◌, ◌*◌, ◌≤◌, eqb, leb, Result, Ok, Err}
 use Rattle.numbers.specs.Fault.{Fault, ◌when◌, first_of}
 use Rattle.uncertainty.specs.declared.Uncertainties.{Uncertainties}
-use Rattle.uncertainty.specs.declared.ModelFactor.{ModelFactor}
+use Rattle.uncertainty.specs.declared.FactorRefusal.{FactorRefusal}
+use Rattle.uncertainty.specs.declared.FactorRefusal.TheVariants.{PercentageTooLarge, UnknownCode}
+use Rattle.uncertainty.specs.declared.Choice.{Choice}
+use Rattle.uncertainty.specs.declared.Choice.TheVariants.{Lower, Higher}
 
 -- What is entered for a, b, c, d, e, g.
 abbrev pub entering : (a b c d e g : ℕ) → Uncertainties
@@ -25,6 +28,10 @@ pub record AtMost (u u' : Uncertainties) : Type 0 where
 -- 'six whole percentages a, b, c, d, e, g, each 0 to 100'
 abbrev pub is_percentage : ℕ → Bool
 is_percentage x = leb x 100
+
+-- the six in a row
+abbrev pub each_of : Uncertainties → List ℕ
+each_of u = u.a ∷ u.b ∷ u.c ∷ u.d ∷ u.e ∷ u.g ∷ []
 
 unfoldable pub are_percentages : Uncertainties → Bool
 are_percentages u =
@@ -79,6 +86,15 @@ code_faults u =
     ∷ 19 when not (are_codes u)
     ∷ []
 
+-- The choice that a code is.
+abbrev pub choice_of : (code : ℕ) → Result Choice FactorRefusal
+choice_of code = cond (eqb code 1) (Ok Lower) (cond (eqb code 2) (Ok Higher) (Err UnknownCode))
+
+-- An answer in numbers: the refusal's, 0 if none, and the factor in percent, 0 if refused.
+pub record ModelFactor : Type 0 where
+  pub refusal : ℕ
+  pub factor : ℕ
+
 -- 'with factor 0'.
 abbrev pub no_factor : (refusal : ℕ) → ModelFactor
 no_factor refusal = record { refusal = refusal; factor = 0 }
@@ -92,3 +108,12 @@ by_percentages u = unless (percentage_faults u) (record { refusal = 0; factor = 
 
 unfoldable pub by_codes : Uncertainties → ModelFactor
 by_codes u = unless (code_faults u) (by_percentages (chosen_by u))
+
+-- The number of each refusal, and the numbers of each case of the answer.
+abbrev pub refusal_number : FactorRefusal → ℕ
+refusal_number PercentageTooLarge = 18
+refusal_number UnknownCode = 19
+
+abbrev pub numbers_of : Result ℕ FactorRefusal → ModelFactor
+numbers_of (Ok factor) = record { refusal = 0; factor = factor }
+numbers_of (Err why) = no_factor (refusal_number why)

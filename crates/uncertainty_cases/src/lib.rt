@@ -4,7 +4,7 @@
 
 ghost use Rattle.std.specs.Prelude.{◌≡◌, ◌≤◌, length};
 
-use uncertainty::{ModelFactor, Uncertainties};
+use uncertainty::{FactorRefusal, Uncertainties};
 
 // The bytes of a payload: a, b, c, d, e and g.
 pub const PAYLOAD: usize = 6;
@@ -24,9 +24,13 @@ fn entered(payload: &[u8]) -> Uncertainties
 }
 
 // Prints an answer.
-fn put_factor(rt: &impl Print, answer: ModelFactor) {
-    print::number(rt, answer.refusal as u64, b' ');
-    print::number(rt, answer.factor as u64, b'\n');
+fn put_factor(rt: &impl Print, answer: Result<u8, FactorRefusal>) {
+    let (refusal, factor) = match answer {
+        Ok(factor) => (0, factor),
+        Err(why) => (why.number(), 0),
+    };
+    print::number(rt, refusal as u64, b' ');
+    print::number(rt, factor as u64, b'\n');
 }
 
 // Prints the factor of six percentages.

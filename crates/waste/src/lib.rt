@@ -13,11 +13,6 @@ pub const MASS_LIMIT: u64 = 1_000_000_000;
 // The most organic dry matter that sludge can have, in percent.
 pub const MOST_DRY: u8 = 100;
 
-// The codes of the kinds.
-pub const YEARLY: u8 = 1;
-
-pub const MONTHLY: u8 = 2;
-
 // The kinds of a record and of a run: by year, and by month.
 #[derive(Clone, Copy, Debug, PartialEq, Eq)]
 pub enum Kind {

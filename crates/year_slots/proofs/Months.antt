@@ -1,13 +1,13 @@
 -- Some months added one after the other: what is left to add is added to what was added so far.
-use mathlib.Core.Path.{◌≡◌, ◌∙◌}
+use mathlib.Core.Path.{◌≡◌, refl}
 use mathlib.Core.List.{List}
-use Prim.Native.Nat.{ℕ, suc, ◌+◌, ◌*◌, ◌≤◌}
+use Prim.Native.Nat.{ℕ, suc, ◌+◌, ◌-◌, ◌*◌, ◌≤◌}
 use native.Mathlib.Omega.{arith}
 use lib.ListN.{length, drop}
 use lib.Seq.{length-sets, drop-drop}
 use Rattle.record.specs.Fields.{record_bytes}
 use Rattle.carbon.specs.Carbon.{most_records}
-use Rattle.year_slots.specs.Slots.{slot_size, totals_bytes, slot_of, slot_at, slot_row, with_month, added_to}
+use Rattle.year_slots.specs.Slots.{slot_size, slot_of, slot_at, slot_row, with_month, added_to}
 use Rattle.year_slots.specs.Months.{month_added, MonthFits, months_added, MonthsFit}
 
 -- A month more leaves the buffer as long as it is.
@@ -17,20 +17,25 @@ added_length totals n x0 figure bound =
     let k = slot_of n in length-sets totals (slot_size * k) (slot_row (with_month k (slot_at totals k) x0 figure bound))
 
 pub record MidMonths (totals₀ : List ℕ) (n : ℕ) (out : List ℕ) (count : ℕ) (totals : List ℕ) (months at left : ℕ) : Type 0 where
-  pub size : length totals ≡ totals_bytes
   pub few : months + left ≤ most_records
   pub room : at + record_bytes * left ≤ length out
   pub fit : MonthsFit left totals months (drop at out)
   pub so_far : months_added left totals months (drop at out) ≡ months_added count totals₀ n out
 
 module _ {totals₀ : List ℕ} {n : ℕ} {out : List ℕ} {count : ℕ} where
+  pub months_start : (n + count ≤ most_records) × (record_bytes * count ≤ length out) → MonthsFit count totals₀ n out
+      → MidMonths totals₀ n out count totals₀ (n + 0) (record_bytes * 0) (count - 0)
+  months_start size fit =
+      let same : n + 0 ≡ n = omega arith in
+      let all : count - 0 ≡ count = omega arith in
+      rw (same, all) (record { few = size.0; room = omega (arith, size.1); fit = fit; so_far = refl })
+
   pub months_on : {totals : List ℕ} {months at left : ℕ} → MidMonths totals₀ n out count totals months at left → (left' : ℕ) → left ≡ suc left'
       → MonthFits (slot_at totals (slot_of (months + 1))) (drop at out) × MidMonths totals₀ n out count (month_added totals months (drop at out)) (months + 1) (at + record_bytes) left'
   unfolding months_added MonthsFit
   months_on {totals} {months} {at} {left} h left' e = let fit = rw e at h.fit in (
     fit.0,
     record {
-      size = added_length totals (months + 1) _ _ _ ∙ h.size;
       few = omega (arith, h.few, e);
       room = omega (arith, h.room, e);
       fit = rw (← drop-drop record_bytes at out) fit.1;

@@ -135,26 +135,18 @@ module _ (totals : List ℕ) (k : ℕ) where
         ]
       ])
 
-  -- no month is counted, and some byte is not 0
-  pub some_byte : let s = slot_at totals k in s.months ≡ 0
-      → not (is_blank totals k) ≡ (((not (eqb s.year 0) || not (eqb s.x0 0)) || not (eqb s.figure 0)) || not (eqb s.bound 0))
-  some_byte m =
+  -- so all of its bytes are tested by its numbers
+  pub blank_is : let s = slot_at totals k in is_blank totals k ≡ (eqb s.year 0 && (eqb s.months 0 && (eqb s.x0 0 && (eqb s.figure 0 && eqb s.bound 0))))
+  blank_is =
       let s = slot_at totals k in
-      let all : is_blank totals k ≡ (((eqb s.year 0 && eqb s.x0 0) && eqb s.figure 0) && eqb s.bound 0)
-      = same_test (is_blank totals k) (((eqb s.year 0 && eqb s.x0 0) && eqb s.figure 0) && eqb s.bound 0)
-      (λ e. let z = blank_zeros e in simp (z.0, z.2, z.3, z.4))
+      same_test (is_blank totals k) (eqb s.year 0 && (eqb s.months 0 && (eqb s.x0 0 && (eqb s.figure 0 && eqb s.bound 0))))
+      (λ e. let z = blank_zeros e in simp (z.0, z.1, z.2, z.3, z.4))
       (λ e.
-      let p = both_true ((eqb s.year 0 && eqb s.x0 0) && eqb s.figure 0) (eqb s.bound 0) e in
-      let q = both_true (eqb s.year 0 && eqb s.x0 0) (eqb s.figure 0) p.0 in
-      let r = both_true (eqb s.year 0) (eqb s.x0 0) q.0 in
-      zeros_blank (eqb-true s.year 0 r.0) m (eqb-true s.x0 0 r.1) (eqb-true s.figure 0 q.1) (eqb-true s.bound 0 p.1)) in
-      ap not all ∙ any_not (eqb s.year 0) (eqb s.x0 0) (eqb s.figure 0) (eqb s.bound 0)
-    where
-      any_not : (a b c d : Bool) → not (((a && b) && c) && d) ≡ (((not a || not b) || not c) || not d)
-      any_not true true true d = refl
-      any_not true true false d = refl
-      any_not true false c d = refl
-      any_not false b c d = refl
+      let p = both_true (eqb s.year 0) (eqb s.months 0 && (eqb s.x0 0 && (eqb s.figure 0 && eqb s.bound 0))) e in
+      let q = both_true (eqb s.months 0) (eqb s.x0 0 && (eqb s.figure 0 && eqb s.bound 0)) p.1 in
+      let r = both_true (eqb s.x0 0) (eqb s.figure 0 && eqb s.bound 0) q.1 in
+      let t = both_true (eqb s.figure 0) (eqb s.bound 0) r.1 in
+      zeros_blank (eqb-true s.year 0 p.0) (eqb-true s.months 0 q.0) (eqb-true s.x0 0 r.0) (eqb-true s.figure 0 t.0) (eqb-true s.bound 0 t.1))
 
 -- Refusal 32 of the month after n, by the numbers of its slot.
 module _ (totals : List ℕ) (n : ℕ) where

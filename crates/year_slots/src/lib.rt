@@ -6,20 +6,25 @@ ghost use Rattle.std.specs.Prelude.{◌≡◌, ◌+◌, ◌*◌, ◌^◌, ◌≤
 ghost use Rattle.std.proofs.lemmas.List.Edits.{sets};
 ghost use Rattle.record.specs.Fields.{record_bytes};
 ghost use Rattle.carbon.specs.Carbon.{most_records};
-ghost use Rattle.year_slots.specs.Slots.{slot_size, slot_count, totals_bytes, slot_of, slot_at, slot_row, added_to, any_above, differs};
+ghost use Rattle.year_slots.specs.Slots.{slot_size, slot_count, slot_of, slot_at, slot_row, added_to, any_above, differs};
 ghost use Rattle.year_slots.specs.Months.{month_added, MonthFits, months_added, MonthsFit};
 
-// The bytes of a buffer.
-pub const BYTES: usize = 3200;
-
-// The bytes of a slot.
+// The bytes of a slot, and of a buffer of a hundred slots.
 const SLOT: usize = 32;
+
+pub const BYTES: usize = SLOT * 100;
+
+// A buffer of totals.
+pub type Totals = [u8; BYTES];
+
+// The months of a year.
+pub const MONTHS: u16 = 12;
 
 // The largest sum to which a month is added.
 const SUM_LIMIT: u64 = 10000000000000000000;
 
 // A year's number, the months counted, and what they add up to: x0 in mg, figure and bound in grams CO2e.
-#[derive(Clone, Copy)]
+#[derive(Clone, Copy, Debug, Default, PartialEq, Eq)]
 pub struct Slot {
     pub year: u64,
     pub months: u64,
@@ -29,8 +34,8 @@ pub struct Slot {
 }
 
 // Answers slot k.
-pub fn read(totals: &[u8], k: usize) -> Slot
-    requires { (k < slot_count) × (length totals.now ≡ totals_bytes) }
+pub fn read(totals: &Totals, k: usize) -> Slot
+    requires { k < slot_count }
     ensures { (result ≡ slot_at totals.now k) × (result.months < 2 ^ 32) }
 {
     let at = SLOT * k;
@@ -44,8 +49,8 @@ pub fn read(totals: &[u8], k: usize) -> Slot
 }
 
 // Writes slot k.
-fn write(totals: &mut [u8], k: usize, slot: Slot)
-    requires { (k < slot_count) × (length totals.old ≡ totals_bytes) }
+fn write(totals: &mut Totals, k: usize, slot: Slot)
+    requires { k < slot_count }
     ensures { totals.new ≡ sets totals.old (slot_size * k) (slot_row slot) }
 {
     let at = SLOT * k;
@@ -65,28 +70,28 @@ fn is_above(slot: Slot) -> bool
 }
 
 // Tells whether the slot of the month after n refuses it.
-pub fn is_other(totals: &[u8], n: u16) -> bool
-    requires { (n < most_records) × (length totals.now ≡ totals_bytes) }
+pub fn is_other(totals: &Totals, n: u16) -> bool
+    requires { n < most_records }
     ensures { result ≡ differs totals.now (n + 1) }
 {
-    let k = n / 12;
+    let k = n / MONTHS;
     let slot = read(totals, k as usize);
-    if (slot.months != (n % 12) as u64) | is_above(slot) {
+    if (slot.months != (n % MONTHS) as u64) | is_above(slot) {
         return true;
     }
     if slot.months == 0 {
-        return (slot.year != 0) | (slot.x0 != 0) | (slot.figure != 0) | (slot.bound != 0);
+        return slot != Slot::default();
     }
     slot.year != k as u64 + 1
 }
 
 // Adds the month after n to its slot, with x0, figure and bound as its output record says.
-fn add(totals: &mut [u8], n: u16, out: &[u8])
-    requires n_lt_most_records { (n < most_records) × (length totals.old ≡ totals_bytes) × (record_bytes ≤ length out.now) }
+fn add(totals: &mut Totals, n: u16, out: &[u8])
+    requires n_lt_most_records { (n < most_records) × (record_bytes ≤ length out.now) }
     requires month_fits { MonthFits (slot_at totals.old (slot_of (n + 1))) out.now }
     ensures { totals.new ≡ month_added totals.old n out.now }
 {
-    let k = n / 12;
+    let k = n / MONTHS;
     let slot = read(totals, k as usize);
     let more = Slot {
         year: k as u64 + 1,
@@ -99,18 +104,13 @@ fn add(totals: &mut [u8], n: u16, out: &[u8])
 }
 
 // Adds so many months after n to their slots, from their output records.
-pub fn add_months(totals: &mut [u8], n: u16, out: &[u8], count: u64)
-    requires count_bound { (n + count ≤ most_records) × (length totals.old ≡ totals_bytes) × (record_bytes * count ≤ length out.now) }
+pub fn add_months(totals: &mut Totals, n: u16, out: &[u8], count: u64)
+    requires count_bound { (n + count ≤ most_records) × (record_bytes * count ≤ length out.now) }
     requires months_fit { MonthsFit count totals.old n out.now }
     ensures { totals.new ≡ months_added count totals.old n out.now }
 {
-    let mut months = n;
-    let mut at: usize = 0;
-    let mut left = count;
-    while left > 0 {
-        add(totals, months, &out[at..]);
-        months += 1;
-        at += record::BYTES;
-        left -= 1;
+    for month in 0..count {
+        let at = record::BYTES * month as usize;
+        add(totals, n + month as u16, &out[at..]);
     }
 }

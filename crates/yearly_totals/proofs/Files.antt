@@ -15,7 +15,7 @@ use Rattle.ledger.specs.Take.{accepted_of}
 use Rattle.ledger.specs.declared.book.Ledger.{Ledger}
 use Rattle.ledger.proofs.Accepted.{accepted_meets, has_room}
 use Rattle.run.specs.History.{Turn, outputs, work_over, records_of, Run, out_of, outcome_of}
-use Rattle.run.specs.declared.Outcome.{Outcome}
+use Rattle.run.specs.Outcome.{Outcome}
 use Rattle.run.proofs.History.{no_records, first_record_lem, records_count, records_split, on_from, outputs_length, outputs_join, over_most, work_join}
 use Rattle.year_slots.specs.Slots.{totals_bytes, slot_at}
 use Rattle.yearly_totals.specs.Months.{month_refusal, totals_after, month_run_of}

@@ -13,7 +13,7 @@ use Rattle.record.specs.Fields.{record_bytes, period_of, kind_of}
 use Rattle.output.proofs.Laws.{Says}
 use Rattle.ledger.specs.Take.{accepted_of, refused_of, output_record, output_fields}
 use Rattle.ledger.specs.declared.book.Ledger.{Ledger}
-use Rattle.ledger.specs.declared.answer.Answer.{Answer}
+use Rattle.ledger.specs.Answer.{Answer}
 use Rattle.ledger.proofs.Accepted.{accepted_meets}
 use Rattle.ledger.proofs.Fits.{output_says}
 use Rattle.ledger.proofs.Step.{released_between}

@@ -17,7 +17,7 @@ use Rattle.ledger.specs.Refusal.{refusal_of}
 use Rattle.ledger.specs.declared.book.Ledger.{Ledger}
 use Rattle.ledger.proofs.Accepted.{accepted_meets}
 use Rattle.run.specs.History.{outputs, records_of, Run, run_of, out_of, outcome_of}
-use Rattle.run.specs.declared.Outcome.{Outcome}
+use Rattle.run.specs.Outcome.{Outcome}
 use Rattle.run.proofs.History.{first_record_lem, begun_record, records_count, stopped, run_counts, run_within, outputs_length}
 use Rattle.year_slots.specs.Slots.{totals_bytes, slot_at, differs}
 use Rattle.year_slots.specs.declared.Slot.{Slot}
@@ -148,13 +148,13 @@ module _ (l : Ledger) (totals left : List ℕ) (room : ℕ) (size : length total
     -- The output records of the plain run can be added to the totals, ...
     module _ (out : List ℕ) {o : Outcome} {out' : List ℕ} (is : o ≡ outcome_of ran) (writes : out' ≡ out_of ran out) where
       pub can_add : length out ≡ room
-          → ((l.n + o.accepted ≤ most_records) × (length totals ≡ totals_bytes) × (record_bytes * o.accepted ≤ length out')) × MonthsFit o.accepted totals l.n out'
+          → ((l.n + o.accepted ≤ most_records) × (record_bytes * o.accepted ≤ length out')) × MonthsFit o.accepted totals l.n out'
       unfolding outcome_of out_of
       can_add long =
           let f = fits_all in
           let kept : length (outputs ran.accepted ++ drop (length (outputs ran.accepted)) out) ≡ length out
           = simp (length-append, length-drop) (omega (arith, outputs_length ran.accepted, f.2, long)) in
-          rw (is, writes) ((f.0, size, omega (arith, kept, f.2, long)), taken.fit (drop (length (outputs ran.accepted)) out))
+          rw (is, writes) ((f.0, omega (arith, kept, f.2, long)), taken.fit (drop (length (outputs ran.accepted)) out))
 
       -- ... and then the year's run has ended.
       pub year_ends : {totals' : List ℕ} {next : ℕ} → totals' ≡ months_added o.accepted totals l.n out' → next ≡ kind_of (drop (record_bytes * o.accepted) part)

@@ -12,7 +12,7 @@ use Rattle.record.specs.Fields.{record_bytes, period_of}
 use Rattle.refusal.specs.Refusal.{faults_of}
 use Rattle.ledger.specs.Take.{accepted_of, refused_of}
 use Rattle.ledger.specs.declared.book.Ledger.{Ledger}
-use Rattle.ledger.specs.declared.answer.Answer.{Answer}
+use Rattle.ledger.specs.Answer.{Answer}
 use Rattle.run.specs.History.{Offer, Turn, ledger_after, leading, ending, in_turn, Run, read_off}
 use Rattle.run.proofs.History.{stopped, on_from, accepted_turn, goes_on, stops, none_refused, read_join, read_refused, in_turn_join}
 use Rattle.year_slots.specs.Slots.{totals_bytes, added_to}

@@ -7,7 +7,7 @@ use Rattle.refusal.specs.Refusal.{faults_of}
 use Rattle.ledger.specs.Refusal.{sound}
 use Rattle.ledger.specs.Take.{accepted_of, refused_of, output_record}
 use Rattle.ledger.specs.declared.book.Ledger.{Ledger}
-use Rattle.ledger.specs.declared.answer.Answer.{Answer}
+use Rattle.ledger.specs.Answer.{Answer}
 use Rattle.run.specs.History.{Offer, Turn, is_accepted, in_turn, Run, read_off}
 use Rattle.year_slots.specs.Slots.{totals_bytes, added_to, differs}
 

@@ -9,10 +9,6 @@ use Rattle.year_slots.specs.Slots.{slot_at, differs}
 use Rattle.year_slots.specs.declared.Slot.{Slot}
 use Rattle.yearly_totals.specs.Months.{month_run_of}
 
--- The smaller of two numbers.
-unfoldable pub least_of : (a b : ℕ) → ℕ
-least_of a b = cond (ltb a b) a b
-
 -- The refusal of a record, from that of the plain step, with a buffer of 3200 bytes: the tests before 6 have numbers up to 5.
 unfoldable pub as_monthly : (refusal : ℕ) → (is_yearly differs : Bool) → ℕ
 as_monthly refusal is_yearly differs =

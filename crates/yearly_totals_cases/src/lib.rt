@@ -16,19 +16,13 @@ fn totals_end(payload: &[u8], head: usize) -> usize
     ensures { (head ≤ result) × (result ≤ length payload.now) }
 {
     let given = numbers::read::<2>(payload, head - 2) as usize;
-    if given < payload.len() - head {
-        head + given
-    } else {
-        payload.len()
-    }
+    head + given.min(payload.len() - head)
 }
 
 // Fills a buffer with the bytes that are given, and with zeros after them.
 fn fill(totals: &mut [u8], given: &[u8]) {
-    let mut i: usize = 0;
-    while i < totals.len() {
-        totals[i] = if i < given.len() { given[i] } else { 0 };
-        i += 1;
+    for (i, byte) in totals.iter_mut().enumerate() {
+        *byte = given.get(i).copied().unwrap_or(0);
     }
 }
 
@@ -36,11 +30,7 @@ fn fill(totals: &mut [u8], given: &[u8]) {
 fn used(totals: &[u8]) -> usize
     ensures { result ≤ length totals.now }
 {
-    let mut end = totals.len();
-    while end > 0 && totals[end - 1] == 0 {
-        end -= 1;
-    }
-    end
+    totals.iter().rposition(|byte| *byte != 0).map_or(0, |last| last + 1)
 }
 
 // Prints the buffers that were lent, the last words of a line.
@@ -67,7 +57,7 @@ pub fn step(rt: &impl Print, payload: &[u8])
     fill(totals, &payload[STEP_HEAD..end]);
     let ledger = ledger_cases::ledger_of(payload);
     let answer = yearly_totals::take_month(ledger, totals, &payload[end..], lent);
-    ledger_cases::put_answer(rt, answer);
+    ledger_cases::put_answer(rt, ledger, answer);
     put_lent(rt, lent, totals);
 }
 
@@ -87,7 +77,7 @@ pub fn run(rt: &impl Print, payload: &[u8])
     let totals = &mut buffer[0..size];
     fill(totals, &payload[RUN_HEAD..end]);
     let ledger = ledger_cases::ledger_of(payload);
-    let outcome = yearly_totals::run_months(ledger, totals, &payload[end..], lent);
-    ledger_cases::put_outcome(rt, outcome);
+    let end_of_run = yearly_totals::run_months(ledger, totals, &payload[end..], lent);
+    ledger_cases::put_outcome(rt, end_of_run);
     put_lent(rt, lent, totals);
 }

@@ -2,7 +2,12 @@
 use mathlib.Core.Path.{◌≡◌, sym, ap, ◌∙◌}
 use native.Mathlib.Omega.{arith}
 use lib.ListN.{length}
-use Rattle.ledger.specs.declared.answer.Answer.{Answer}
+use Rattle.std.proofs.Common.{Ok, Err}
+use Rattle.refusal.proofs.Numbers.{number_some}
+use Rattle.ledger.specs.Answer.{Answer}
+use Rattle.ledger.specs.Take.{refused_of}
+use Rattle.ledger.specs.Numbers.{answer_numbers}
+use Rattle.image.specs.Image.{ledger_of}
 use Rattle.calls.specs.Calls.{answered, take_here, take_image, take_answer}
 use Rattle.calls.proofs.Takes.{room_most, part_length, step_is, output_left, image_of_lem, image_next, image_stays}
 use Rattle.calls.proofs.take.Goals as goal
@@ -13,32 +18,34 @@ slice_bounds-take_one-end c = omega (arith, c.room-room.ensures, room_most (leng
 pub slice_bounds-take_one-end-2 : goal.slice_bounds-take_one-end-2
 slice_bounds-take_one-end-2 c = sym (part_length c.args.out.now c.args.answer.now c.room-room.result c.room-room.ensures)
 
-pub returns-then-taken-ne0 : goal.returns-then-taken-ne0
-unfolding take_image take_answer
-returns-then-taken-ne0 c =
+pub returns-in-Err : goal.returns-in-Err
+unfolding take_image take_answer refused_of
+returns-in-Err c =
     let a = c.args in
     let here = take_here a.image.now a.«record».now a.out.now a.answer.now in
-    let done : c.take_one-taken.result ≡ here =
-    (rw c.read.ensures at c.take_one-taken.ensures.value) ∙ step_is a.image.now a.«record».now a.out.now a.answer.now c.room-room.result c.room-room.ensures in
+    let done : answer_numbers (ledger_of a.image.now) (Err c.in-Err.why) ≡ here =
+    (rw c.read.ensures at c.in-Err.ensures.value) ∙ step_is a.image.now a.«record».now a.out.now a.answer.now c.room-room.result c.room-room.ensures in
+    let number = ap (λ (x : Answer). x.refusal) done in
     record {
-      value = ap (λ (x : Answer). x.refusal) done;
-      image_after = sym (image_stays here a.image.now (λ z. c.if-taken-ne0.true (ap (λ (x : Answer). x.refusal) done ∙ z)));
-      out_after = output_left a.image.now a.«record».now a.out.now a.answer.now c.room-room.result c.room-room.ensures (rw c.read.ensures at c.take_one-taken.ensures.out_after);
-      answer_after = c.write_answer.ensures ∙ ap (λ (x : Answer). answered x a.answer.now) done;
+      value = c.number.ensures ∙ number;
+      image_after = sym (image_stays here a.image.now (λ z. number_some c.in-Err.why (number ∙ z)));
+      out_after = output_left a.image.now a.«record».now a.out.now a.answer.now c.room-room.result c.room-room.ensures (rw c.read.ensures at c.in-Err.ensures.out_after);
+      answer_after = (rw c.in-Err.is at c.write_answer.ensures (ledger_of a.image.now)) ∙ ap (λ (x : Answer). answered x a.answer.now) done;
     }
 
-pub returns : goal.returns
+pub returns-in-Ok : goal.returns-in-Ok
 unfolding take_image take_answer
-returns c =
+returns-in-Ok c =
     let a = c.args in
     let here = take_here a.image.now a.«record».now a.out.now a.answer.now in
-    let done : c.take_one-taken.result ≡ here =
-    (rw c.read.ensures at c.take_one-taken.ensures.value) ∙ step_is a.image.now a.«record».now a.out.now a.answer.now c.room-room.result c.room-room.ensures in
-    let none : here.refusal ≡ 0 = sym (ap (λ (x : Answer). x.refusal) done) ∙ c.if-taken-ne0.false in
+    let done : answer_numbers (ledger_of a.image.now) (Ok c.in-Ok.taken) ≡ here =
+    (rw c.read.ensures at c.in-Ok.ensures.value) ∙ step_is a.image.now a.«record».now a.out.now a.answer.now c.room-room.result c.room-room.ensures in
+    let none : here.refusal ≡ 0 = sym (ap (λ (x : Answer). x.refusal) done) in
     record {
       value = sym none;
       image_after =
-          c.write.ensures ∙ rw done (image_next here a.image.now (image_of_lem a.image.now a.«record».now a.out.now a.answer.now c.room-room.result c.room-room.ensures none) none);
-      out_after = output_left a.image.now a.«record».now a.out.now a.answer.now c.room-room.result c.room-room.ensures (rw c.read.ensures at c.take_one-taken.ensures.out_after);
-      answer_after = c.write_answer-2.ensures ∙ ap (λ (x : Answer). answered x a.answer.now) done;
+          c.write.ensures
+          ∙ rw (ap (λ (x : Answer). x.ledger) done) (image_next here a.image.now (image_of_lem a.image.now a.«record».now a.out.now a.answer.now c.room-room.result c.room-room.ensures none) none);
+      out_after = output_left a.image.now a.«record».now a.out.now a.answer.now c.room-room.result c.room-room.ensures (rw c.read.ensures at c.in-Ok.ensures.out_after);
+      answer_after = (rw c.in-Ok.is at c.write_answer.ensures (ledger_of a.image.now)) ∙ ap (λ (x : Answer). answered x a.answer.now) done;
     }

@@ -1,5 +1,5 @@
 -- A row of eight and three numbers more, from the start on.
-use mathlib.Core.Path.{◌≡◌, ◌∙◌}
+use mathlib.Core.Path.{◌≡◌, refl, ◌∙◌}
 use mathlib.Core.List.{List, ◌++◌}
 use Prim.Native.Nat.{ℕ, ◌≤◌}
 use borrow.Author.Tests.{lt-ltb, le-ltb}
@@ -7,7 +7,10 @@ use lib.ListN.{length, get_or}
 use lib.Seq.{sets}
 use Rattle.numbers.specs.Bytes.{bytes_of, row_of}
 use Rattle.numbers.proofs.Bytes.{front_written}
-use Rattle.ledger.specs.declared.answer.Answer.{Answer}
+use Rattle.ledger.specs.Answer.{Answer}
+use Rattle.std.proofs.Common.{Ok}
+use Rattle.ledger.specs.Take.{refused_of}
+use Rattle.ledger.specs.Numbers.{answer_numbers}
 use Rattle.calls.specs.Calls.{answer_bytes, answer_row, answered}
 use Rattle.calls.proofs.write_answer.Goals as goal
 
@@ -19,11 +22,17 @@ all-written a out first p q s room =
     simp (le-ltb (length out) answer_bytes room)
     (front_written (row_of (λ t. get_or a.releases t 0) 8) (bytes_of 8 a.x0 ++ bytes_of 8 a.figure ++ bytes_of 8 a.bound) out first (s ∙ rw (q, p)) room)
 
-pub returns : goal.returns
-returns c =
-    all-written c.args.answer c.args.out.now c.write_eight.ensures c.write.ensures c.write-2.ensures c.write-3.ensures
-    c.if-out-lt-ANSWER_BYTES.false
+pub returns-in-Ok : goal.returns-in-Ok
+returns-in-Ok c = λ l.
+    rw c.in-Ok.is
+    (all-written (answer_numbers l (Ok c.in-Ok.taken)) c.args.out.now c.write_eight.ensures c.write.ensures c.write-in-Ok.ensures c.write-in-Ok-2.ensures
+    c.if-out-lt-ANSWER_BYTES.false)
+
+pub returns-in-Err : goal.returns-in-Err
+unfolding answered answer_row refused_of
+returns-in-Err c = λ l.
+    rw c.in-Err.is (simp (le-ltb (length c.args.out.now) answer_bytes c.if-out-lt-ANSWER_BYTES.false) (rw c.copy_from_slice.ensures.after refl))
 
 pub returns-then-out-lt-ANSWER_BYTES : goal.returns-then-out-lt-ANSWER_BYTES
 unfolding answered
-returns-then-out-lt-ANSWER_BYTES c = simp (lt-ltb _ _ c.if-out-lt-ANSWER_BYTES.true)
+returns-then-out-lt-ANSWER_BYTES c = λ l. simp (lt-ltb _ _ c.if-out-lt-ANSWER_BYTES.true)

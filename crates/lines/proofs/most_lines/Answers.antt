@@ -1,21 +1,22 @@
 -- A line for every 48 bytes begun, or one more than a ledger takes records.
-use mathlib.Core.Path.{◌≡◌}
-use Prim.Native.Nat.{ℕ, ◌+◌, ◌/◌, ◌%◌}
-use native.Mathlib.Omega.{arith}
-use borrow.Author.Rules.{rules}
-use borrow.Author.Tests.{le-leb, lt-leb}
-use Rattle.record.specs.Fields.{record_bytes}
+use Rattle.std.proofs.Common.{◌≡◌, ℕ, ◌+◌, ◌≤◌, min, ap, ◌∙◌, rules, arith, le-leb}
+use Rattle.std.proofs.lemmas.Bool.{lt-leb}
+use native.Mathlib.Decide.{dec_le}
+use Rattle.carbon.specs.Carbon.{most_records}
 use Rattle.run.specs.History.{records_begun}
 use Rattle.lines.specs.Listing.{most_lines}
 use Rattle.lines.proofs.most_lines.Goals as goal
 
-begun : (bytes : ℕ) → records_begun bytes ≡ bytes / record_bytes + records_begun (bytes % record_bytes)
-begun bytes = omega arith
-
-pub returns-then-begun-le-LINES : goal.returns-then-begun-le-LINES
+at_most : (records : ℕ) → min records (most_records + 1) ≡ most_lines records
 unfolding most_lines
-returns-then-begun-le-LINES c = (rw (begun c.args.bytes) (simp (le-leb _ _ c.if-begun-le-LINES.true)), search rules)
+at_most records = by_size (dec_le records (most_records + 1))
+  where
+    by_size : Dec (records ≤ most_records + 1) → min records (most_records + 1) ≡ most_lines records
+    by_size (yes few) = simp (le-leb records (most_records + 1) few) (omega arith)
+    by_size (no many) = simp (lt-leb records (most_records + 1) (omega arith)) (omega arith)
 
-pub returns-else-begun-le-LINES : goal.returns-else-begun-le-LINES
-unfolding most_lines
-returns-else-begun-le-LINES c = (rw (begun c.args.bytes) (simp (lt-leb _ _ c.if-begun-le-LINES.false)), search rules)
+pub returns : goal.returns
+returns c =
+    let begun : c.div_ceil.result ≡ records_begun c.args.bytes = omega arith in
+    let least : c.min.result ≡ min c.div_ceil.result (most_records + 1) = search rules in
+    (least ∙ ap (λ (k : ℕ). min k (most_records + 1)) begun ∙ at_most (records_begun c.args.bytes), omega arith)

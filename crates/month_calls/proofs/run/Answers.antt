@@ -3,7 +3,7 @@ use mathlib.Core.Path.{◌≡◌, sym, ap, ◌∙◌}
 use native.Mathlib.Omega.{arith}
 use lib.ListN.{length}
 use Rattle.run.specs.History.{outcome_of}
-use Rattle.run.specs.declared.Outcome.{Outcome}
+use Rattle.run.specs.Outcome.{Outcome}
 use Rattle.calls.proofs.Takes.{run_stays}
 use Rattle.month_calls.specs.MonthCalls.{run_months_here}
 use Rattle.month_calls.proofs.Months.{run_next}

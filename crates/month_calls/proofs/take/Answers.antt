@@ -2,7 +2,7 @@
 use mathlib.Core.Path.{◌≡◌, sym, ap, ◌∙◌}
 use native.Mathlib.Omega.{arith}
 use lib.ListN.{length}
-use Rattle.ledger.specs.declared.answer.Answer.{Answer}
+use Rattle.ledger.specs.Answer.{Answer}
 use Rattle.calls.specs.Calls.{answered}
 use Rattle.calls.proofs.Takes.{room_most, part_length, image_next, image_stays}
 use Rattle.month_calls.specs.MonthCalls.{take_month_here}

@@ -3,10 +3,11 @@ use Rattle.calls.proofs.write_answer.Reads as write-answer
 use Rattle.calls.proofs.room.Reads as room
 use Rattle.calls.proofs.take.Reads as call-take
 use Rattle.calls.proofs.run.Reads as call-run
+use Rattle.ledger.specs.Step.{fresh}
 use Rattle.promise_answers.proofs.OneAnswer.{OneAnswer, Settled, by_equation, ◌&◌, both}
 
 pub write_answer_one : Settled write-answer.Learnt (λ κs r s. s.0.now)
-write_answer_one = by_equation (λ κs a r s p. p)
+write_answer_one = by_equation (λ κs a r s p. p fresh)
 
 pub room_one : OneAnswer room.Learnt
 room_one = by_equation (λ κs a r s p. p)

@@ -2,23 +2,23 @@
 use mathlib.Core.Path.{◌≡◌, refl, sym, ap, ◌∙◌}
 use mathlib.Core.Bool.{true, Bool}
 use mathlib.Core.List.{List}
-use Prim.Native.Nat.{ℕ, ◌+◌, ◌-◌, ◌*◌, ◌≤◌, ◌<◌}
+use Prim.Native.Nat.{ℕ, ◌+◌, ◌-◌, ◌≤◌, ◌<◌}
 use native.Mathlib.Nat.{add-sub_cancel_left}
 use native.Mathlib.Omega.{arith}
 use borrow.Author.Rules.{rules}
-use borrow.Author.Count.{below_more}
 use lib.ListN.{length, take, drop}
-use Rattle.record.specs.Fields.{record_bytes}
 use Rattle.record.specs.Ranges.{light}
+use Rattle.refusal.specs.Numbers.{numbered}
 use Rattle.refusal.specs.Reach.{reach_of}
+use Rattle.refusal.proofs.Numbers.{number_some}
 use Rattle.ledger.specs.Refusal.{refusal_of}
 use Rattle.ledger.specs.Take.{accepted_of, entered_of, output_record}
 use Rattle.ledger.specs.declared.answer.Entered.{Entered}
 use Rattle.ledger.specs.declared.book.Ledger.{Ledger}
 use Rattle.ledger.proofs.Accepted.{room_alike}
 use Rattle.ledger.proofs.Settle.{work_small}
-use Rattle.run.proofs.MidRun.{MidRun, early, run_starts, lent_length, lent_back, reach_within, next_within, at_last, at_early, at_heavy, no_refusal, work_fits, turn_on, Ends, may_settle}
-use Rattle.run.proofs.run.Goals.{then-at-reach, else-at-reach+then-refusal-ne0, else-at-reach+else-refusal-ne0+then-loop-t-test+then-not-is_light}
+use Rattle.run.proofs.MidRun.{MidRun, early, run_starts, lent_length, lent_back, reach_within, next_within, at_last, at_early, at_heavy, no_refusal, work_fits, turn_on, Ends}
+use Rattle.run.proofs.run.Goals.{then-at-reach, else-at-reach+in-Some, else-at-reach+in_default+then-loop-t-test+then-not-is_light}
 use Rattle.run.proofs.run.Goals as goal
 
 -- the record at the head of the loop is whole and has room
@@ -27,12 +27,12 @@ record Ready (file out : List ℕ) (at reach : ℕ) : Type 0 where
   in_file : at + 48 ≤ length file
   in_out : at + 48 ≤ length out
 
-ready : (file out₀ out : List ℕ) (at k reach : ℕ) → reach ≡ reach_of (length file) (length out₀) → at ≡ record_bytes * k → length out ≡ length out₀
-    → at < reach → Ready file out at reach
-ready file out₀ out at k reach end counted as_long below =
+ready : {l₀ l : Ledger} {file out₀ entries out : List ℕ} {good : Bool} {at work reach : ℕ} → MidRun l₀ file out₀ entries good out l at work
+    → reach ≡ reach_of (length file) (length out₀) → at < reach → Ready file out at reach
+ready {file} {out₀} {at} mid end below =
     let w = reach_within (length file) (length out₀) in
-    let next = next_within (length file) (length out₀) at k counted (omega (arith, end, below)) in
-    record { in_reach = omega (arith, end, next); in_file = omega (arith, next, w.0); in_out = omega (arith, next, w.1, as_long) }
+    let next = next_within (length file) (length out₀) at (length mid.done) mid.counted (omega (arith, end, below)) in
+    record { in_reach = omega (arith, end, next); in_file = omega (arith, next, w.0); in_out = omega (arith, next, w.1, mid.as_long) }
 
 -- past both checks the record is accepted
 passed : {l₀ l : Ledger} {file out₀ entries out : List ℕ} {good : Bool} {at work : ℕ} → MidRun l₀ file out₀ entries good out l at work
@@ -43,50 +43,18 @@ passed {l} {file} {good} {at} mid none each =
     no_refusal mid (rw (add-sub_cancel_left at 48) at none) (λ t b. rw (add-sub_cancel_left at 48) at (each t b))
 
 pub records-init : goal.records-init
-records-init c = (run_starts _ _ _ _ _ c.are_sound-good.ensures c.run_entries-entries.ensures, omega arith)
-
-pub overflow_sub-records : goal.overflow_sub-records
-overflow_sub-records c = c.records.invariant.0.in_file
-
-pub overflow_sub-end : goal.overflow_sub-end
-overflow_sub-end c = omega (arith, c.records.invariant.0.grown)
-
-pub overflow_sub-end-then-refusal-ne0 : goal.overflow_sub-end-then-refusal-ne0
-overflow_sub-end-then-refusal-ne0 c = omega (arith, c.records.invariant.0.grown)
-
-pub overflow_sub-end-then-not-is_light : goal.overflow_sub-end-then-not-is_light
-overflow_sub-end-then-not-is_light c = omega (arith, c.records.invariant.0.grown)
-
-pub overflow_add-bytes : goal.overflow_add-bytes
-overflow_add-bytes c = omega (arith, (ready c.args.records.now c.args.out.now c.records.out c.records.at (length c.records.invariant.0.done) c.reach-reach.result c.reach-reach.ensures c.records.invariant.0.counted c.records.invariant.0.as_long (omega arith)).in_file)
-
-pub overflow_add-at : goal.overflow_add-at
-overflow_add-at c = omega (arith, (ready c.args.records.now c.args.out.now c.records.out c.records.at (length c.records.invariant.0.done) c.reach-reach.result c.reach-reach.ensures c.records.invariant.0.counted c.records.invariant.0.as_long (omega arith)).in_file)
-
-pub overflow_add-at-in-records : goal.overflow_add-at-in-records
-overflow_add-at-in-records c = omega (arith, (ready c.args.records.now c.args.out.now c.records.out c.records.at (length c.records.invariant.0.done) c.reach-reach.result c.reach-reach.ensures c.records.invariant.0.counted c.records.invariant.0.as_long (omega arith)).in_file)
-
-pub records-smaller : goal.records-smaller
-records-smaller c = omega (arith, (ready c.args.records.now c.args.out.now c.records.out c.records.at (length c.records.invariant.0.done) c.reach-reach.result c.reach-reach.ensures c.records.invariant.0.counted c.records.invariant.0.as_long (omega arith)).in_file)
+records-init c = (run_starts _ _ _ _ _ c.is_sound-good.ensures c.run_entries-entries.ensures, omega arith)
 
 pub slice_bounds-bytes-end : goal.slice_bounds-bytes-end
-slice_bounds-bytes-end c = let b : c.records.at + 48 ≤ length c.args.records.now = (ready c.args.records.now c.args.out.now c.records.out c.records.at (length c.records.invariant.0.done) c.reach-reach.result c.reach-reach.ensures c.records.invariant.0.counted c.records.invariant.0.as_long (omega arith)).in_file in search rules
+slice_bounds-bytes-end c = let b : c.records.at + 48 ≤ length c.args.records.now = (ready c.records.invariant.0 c.reach-reach.ensures (omega arith)).in_file in search rules
 
 pub slice_bounds-enter-end : goal.slice_bounds-enter-end
-slice_bounds-enter-end c = let b : c.records.at + 48 ≤ length c.records.out = (ready c.args.records.now c.args.out.now c.records.out c.records.at (length c.records.invariant.0.done) c.reach-reach.result c.reach-reach.ensures c.records.invariant.0.counted c.records.invariant.0.as_long (omega arith)).in_out in search rules
-
-pub loop-t-init : goal.loop-t-init
-loop-t-init c = (search rules, λ k l. absurd (omega arith))
-
-pub loop-t-preserved : goal.loop-t-preserved
-loop-t-preserved c =
-    (search rules, below_more _ _ c.loop-t.invariant.1 (sym c.is_light.ensures ∙ c.if-not-is_light.false))
+slice_bounds-enter-end c = let b : c.records.at + 48 ≤ length c.records.out = (ready c.records.invariant.0 c.reach-reach.ensures (omega arith)).in_out in search rules
 
 pub enter-entered-requires : goal.enter-entered-requires
 enter-entered-requires c =
-    let none : c.early-refusal.result ≡ 0 = omega arith in
-    let ok = passed c.records.invariant.0 (sym c.early-refusal.ensures ∙ none) (λ t b. c.loop-t.invariant.1 t (omega (arith, c.loop-t-test.false))) in
-    rw (add-sub_cancel_left c.records.at 48, lent_length c.records.out c.records.at (ready c.args.records.now c.args.out.now c.records.out c.records.at (length c.records.invariant.0.done) c.reach-reach.result c.reach-reach.ensures c.records.invariant.0.counted c.records.invariant.0.as_long (omega arith)).in_out)
+    let ok = passed c.records.invariant.0 (sym c.in_default.ensures) (λ t b. c.loop-t.invariant.1 t (omega (arith, c.loop-t-test.false))) in
+    rw (add-sub_cancel_left c.records.at 48, lent_length c.records.out c.records.at (ready c.records.invariant.0 c.reach-reach.ensures (omega arith)).in_out)
     (record { out_value = ok; entries_value = c.records.invariant.0.fit ok })
 
 pub overflow_add-work : goal.overflow_add-work
@@ -97,15 +65,14 @@ overflow_add-work c =
       work_fits c.records.invariant.0,
       ap (λ (e : Entered). e.work) c.enter-entered.ensures.value,
       work_small c.records.ledger (take (c.records.at + 48 - c.records.at) (drop c.records.at c.args.records.now)),
-      (ready c.args.records.now c.args.out.now c.records.out c.records.at (length c.records.invariant.0.done) c.reach-reach.result c.reach-reach.ensures c.records.invariant.0.counted c.records.invariant.0.as_long (omega arith)).in_file,
+      (ready c.records.invariant.0 c.reach-reach.ensures (omega arith)).in_file,
     )
 
 pub records-preserved : goal.records-preserved
 unfolding entered_of accepted_of
 records-preserved c =
-    let none : c.early-refusal.result ≡ 0 = omega arith in
-    let ok = passed c.records.invariant.0 (sym c.early-refusal.ensures ∙ none) (λ t b. c.loop-t.invariant.1 t (omega (arith, c.loop-t-test.false))) in
-    let r = (ready c.args.records.now c.args.out.now c.records.out c.records.at (length c.records.invariant.0.done) c.reach-reach.result c.reach-reach.ensures c.records.invariant.0.counted c.records.invariant.0.as_long (omega arith)) in
+    let ok = passed c.records.invariant.0 (sym c.in_default.ensures) (λ t b. c.loop-t.invariant.1 t (omega (arith, c.loop-t-test.false))) in
+    let r = (ready c.records.invariant.0 c.reach-reach.ensures (omega arith)) in
     let at = c.records.at in
     let l = c.records.ledger in
     let bytes = take 48 (drop at c.args.records.now) in (
@@ -117,50 +84,27 @@ records-preserved c =
       r.in_reach,
     )
 
-pub settled-settled-requires : goal.settled-settled-requires
-settled-settled-requires c =
-    let mid = c.records.invariant.0 in
-    let size = add-sub_cancel_left c.records.at 48 in
-    let left : (c.if-at-reach.end.0 ≡ c.records.ledger.n - c.args.ledger.n) × Ends mid c.if-at-reach.end.1 =
-    elim c.if-at-reach.branch [
-      | then-at-reach w ↦
-          rw w.end-is
-          (refl, rw w.left_over-left.ensures (at_last mid (rw mid.as_long (omega (arith, w.if-at-reach.true, c.records.invariant.1, c.reach-reach.ensures)))))
-      | else-at-reach+then-refusal-ne0 w ↦
-          let r = (ready c.args.records.now c.args.out.now c.records.out c.records.at (length c.records.invariant.0.done) c.reach-reach.result c.reach-reach.ensures c.records.invariant.0.counted c.records.invariant.0.as_long (omega arith)) in
-          rw w.end-is (refl, at_early mid _ (omega (arith, r.in_file)) (omega (arith, r.in_out)) (rw size at w.early-refusal.ensures) w.if-refusal-ne0.true)
-      | else-at-reach+else-refusal-ne0+then-loop-t-test+then-not-is_light w ↦
-          let r = (ready c.args.records.now c.args.out.now c.records.out c.records.at (length c.records.invariant.0.done) c.reach-reach.result c.reach-reach.ensures c.records.invariant.0.counted c.records.invariant.0.as_long (omega arith)) in
-          rw w.end-is (
-            refl,
-            at_heavy mid (rw size at (sym w.early-refusal.ensures ∙ w.if-refusal-ne0.false)) (omega (arith, r.in_file)) (omega (arith, r.in_out)) w.loop-t.t (search rules)
-                (rw size at (sym w.is_light.ensures ∙ w.if-not-is_light.true)),
-          )
-    ] in
-    let may = may_settle mid c.if-at-reach.end.0 left.0 in
-    record { released_value = may.0; ledger_value = may.1 }
-
 pub returns : goal.returns
 returns c =
     let mid = c.records.invariant.0 in
     let size = add-sub_cancel_left c.records.at 48 in
-    let left : (c.if-at-reach.end.0 ≡ c.records.ledger.n - c.args.ledger.n) × Ends mid c.if-at-reach.end.1 =
+    let left : (c.if-at-reach.accepted.0 ≡ c.records.ledger.n - c.args.ledger.n) × Ends mid (numbered c.if-at-reach.accepted.1) =
     elim c.if-at-reach.branch [
       | then-at-reach w ↦
-          rw w.end-is
+          rw w.accepted-is
           (refl, rw w.left_over-left.ensures (at_last mid (rw mid.as_long (omega (arith, w.if-at-reach.true, c.records.invariant.1, c.reach-reach.ensures)))))
-      | else-at-reach+then-refusal-ne0 w ↦
-          let r = (ready c.args.records.now c.args.out.now c.records.out c.records.at (length c.records.invariant.0.done) c.reach-reach.result c.reach-reach.ensures c.records.invariant.0.counted c.records.invariant.0.as_long (omega arith)) in
-          rw w.end-is (refl, at_early mid _ (omega (arith, r.in_file)) (omega (arith, r.in_out)) (rw size at w.early-refusal.ensures) w.if-refusal-ne0.true)
-      | else-at-reach+else-refusal-ne0+then-loop-t-test+then-not-is_light w ↦
-          let r = (ready c.args.records.now c.args.out.now c.records.out c.records.at (length c.records.invariant.0.done) c.reach-reach.result c.reach-reach.ensures c.records.invariant.0.counted c.records.invariant.0.as_long (omega arith)) in
-          rw w.end-is (
+      | else-at-reach+in-Some w ↦
+          let r = (ready c.records.invariant.0 c.reach-reach.ensures (omega arith)) in
+          rw w.accepted-is (refl, at_early mid _ (omega (arith, r.in_file)) (omega (arith, r.in_out)) (rw size at w.in-Some.ensures) (number_some w.in-Some.why))
+      | else-at-reach+in_default+then-loop-t-test+then-not-is_light w ↦
+          let r = (ready c.records.invariant.0 c.reach-reach.ensures (omega arith)) in
+          rw w.accepted-is (
             refl,
-            at_heavy mid (rw size at (sym w.early-refusal.ensures ∙ w.if-refusal-ne0.false)) (omega (arith, r.in_file)) (omega (arith, r.in_out)) w.loop-t.t (search rules)
+            at_heavy mid (rw size at (sym w.in_default.ensures)) (omega (arith, r.in_file)) (omega (arith, r.in_out)) w.loop-t.t (search rules)
                 (rw size at (sym w.is_light.ensures ∙ w.if-not-is_light.true)),
           )
     ] in
     record {
-      value = (λ i. record { ledger = c.settled-settled.ensures i; accepted = left.0 i; refusal = c.if-at-reach.end.1; work = c.records.work }) ∙ left.1.0;
+      value = (λ i. record { ledger = c.settled.ensures i; accepted = left.0 i; refusal = numbered c.if-at-reach.accepted.1; work = c.records.work }) ∙ left.1.0;
       out_after = left.1.1;
     }

@@ -1,15 +1,17 @@
--- Before sample n the loop has added the n samples before it, of which only the last may not add up; then it ends.
+-- Before sample n the loop has added the n samples before it, which all add up, and the rest of them are still to come.
 use mathlib.Core.Path.{◌≡◌}
-use Prim.Native.Nat.{◌-◌, ◌≤◌}
+use mathlib.Core.Bool.{true}
+use Prim.Native.Nat.{◌*◌, ◌≤◌}
+use lib.ListN.{length, drop}
+use Rattle.std.specs.Slice.Iter.{chunks_exact_rest, chunks_exact_size}
 use Rattle.numbers.specs.Eight.{eight, every_of}
-use Rattle.samples.specs.Samples.{adds_up}
+use Rattle.samples.specs.Samples.{sample_bytes, adds_up}
 use Rattle.samples.proofs.Laws.{of_place}
 use Rattle.samples.proofs.add_samples.Given as goal
 
-abbrev pub invariant-loop-n : goal.invariant-loop-n
-invariant-loop-n l = (l.n ≤ l.count)
-    × (l.added.fractions ≡ eight (of_place l.samples l.n))
-    × (l.added.whole ≡ every_of (adds_up l.samples) l.n)
-
-abbrev pub decreases-loop-n : goal.decreases-loop-n
-decreases-loop-n l = l.count - l.n
+abbrev pub invariant-loop-sample : goal.invariant-loop-sample
+invariant-loop-sample l = (chunks_exact_size l.sample-iterator ≡ sample_bytes)
+    × (chunks_exact_rest l.sample-iterator ≡ drop (sample_bytes * length l.yielded) l.samples)
+    × (sample_bytes * length l.yielded ≤ length l.samples)
+    × (l.added ≡ eight (of_place l.samples (length l.yielded)))
+    × (every_of (adds_up l.samples) (length l.yielded) ≡ true)

@@ -21,7 +21,7 @@ overflow_mul-reached c =
     let most = no_more c.args.fractions c.loop-t.parts c.loop-t.t c.args.whole c.loop-t.invariant.1 c.loop-t-test.true c.requires.3 in
     omega (arith, mul-le-mul_left c.args.total (le_trans most c.requires.2), c.requires.0)
 
-pub overflow_cast-masses : goal.overflow_cast-masses
-overflow_cast-masses c =
+pub overflow_cast-mass : goal.overflow_cast-mass
+overflow_cast-mass c =
     let most = no_more c.args.fractions c.loop-t.parts c.loop-t.t c.args.whole c.loop-t.invariant.1 c.loop-t-test.true c.requires.3 in
     omega (arith, share_most c.args.total _ _ most, c.requires.0)

@@ -6,8 +6,8 @@ use Rattle.stretches.specs.Stretches.{stretch_bytes}
 use Rattle.stretches.proofs.Stretches.{MidWhole}
 use Rattle.stretches.proofs.whole_run.Given as goal
 
-abbrev pub invariant-loop-refusal : goal.invariant-loop-refusal
-invariant-loop-refusal l = (MidWhole l.file l.ledger l.at l.refusal l.work) × (length l.out ≡ stretch_bytes)
+abbrev pub invariant-loop-at : goal.invariant-loop-at
+invariant-loop-at l = (MidWhole l.file l.ledger l.at 0 l.work) × (length l.out ≡ stretch_bytes)
 
-abbrev pub decreases-loop-refusal : goal.decreases-loop-refusal
-decreases-loop-refusal l = length l.file - l.at
+abbrev pub decreases-loop-at : goal.decreases-loop-at
+decreases-loop-at l = length l.file - l.at

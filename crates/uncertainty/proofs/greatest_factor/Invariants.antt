@@ -1,11 +1,7 @@
 -- The loop goes down from 100 and passes over what is not allowed, so what it stops at is the greatest that is.
 use mathlib.Core.Path.{◌≡◌}
-use Prim.Native.Nat.{◌≤◌}
 use Rattle.uncertainty.specs.Uncertainty.{allows, greatest, factor_for}
 use Rattle.uncertainty.proofs.greatest_factor.Given as goal
 
 abbrev pub invariant-loop-factor : goal.invariant-loop-factor
-invariant-loop-factor l = (l.factor ≤ 100) × (factor_for l.squares ≡ greatest (allows l.squares) l.factor)
-
-abbrev pub decreases-loop-factor : goal.decreases-loop-factor
-decreases-loop-factor l = l.factor
+invariant-loop-factor l = factor_for l.squares ≡ greatest (allows l.squares) l.factor

@@ -1,58 +1,60 @@
 -- `MidListing` holds at the head of the loop; each stretch and the end is a law of it.
-use mathlib.Core.Path.{refl, ◌∙◌}
-use native.Mathlib.Omega.{arith}
-use lib.ListN.{length}
-use Rattle.run.proofs.History.{goes, no_more}
-use Rattle.stretches.proofs.Stretches.{stretch_is}
-use Rattle.lines.proofs.MidListing.{listing_starts, listing_ends, output_stays, lines_fit, stretch_on}
+use Rattle.std.proofs.Common.{◌≡◌, refl, ap, ◌∙◌, Option, Some}
+use Rattle.std.specs.Slice.Iter.{chunks_rest}
+use Rattle.refusal.specs.Numbers.{numbered}
+use Rattle.refusal.specs.declared.why.Refusal.{Refusal}
+use Rattle.refusal.proofs.Numbers.{number_some}
+use Rattle.lines.proofs.MidListing.{listing_starts, listing_ends, output_stays, lines_fit, stretch_on, refusal_room, stretch_ends}
 use Rattle.lines.proofs.by_stretch.write_listing.Goals as goal
+
+-- a refusal has a number that is not 0
+some : (why : Refusal) {refusal : Option Refusal} → refusal ≡ Some why → numbered refusal ≡ 0 → ⊥
+some why is zero = number_some why (rw is at zero)
+
+pub loop-part-init : goal.loop-part-init
+loop-part-init c =
+    let its = c.into_iter-part-iterator.ensures.into_iter_gives in
+    let chunks = c.chunks-part-items.ensures in
+    (rw (its, chunks.rest, c.fresh-ledger.ensures) (listing_starts c.args.file.now c.args.text.now c.requires), rw its chunks.size, refl)
 
 pub put_lines-length-requires : goal.put_lines-length-requires
 put_lines-length-requires c =
-    let loop = c.loop-refusal in
-    lines_fit (rw (goes c.loop-refusal.refusal c.loop-refusal.at (length c.args.file.now) c.loop-refusal-test.true).0 at c.loop-refusal.invariant.0) loop.out loop.invariant.1 c.run_stretch-ran.ensures.value c.run_stretch-ran.ensures.out_after
+    let h = c.loop-part.invariant in
+    let next = c.in-Some.ensures.steps.1 in
+    let ran = c.run-ran.ensures in
+    lines_fit h.0 c.in-Some.part.now (chunks_rest c.next.new.self) next.0 h.1 next.1 c.loop-part.out h.2 ran.value ran.out_after
 
-pub loop-refusal-preserved : goal.loop-refusal-preserved
-loop-refusal-preserved c =
-    let ran = c.run_stretch-ran in
-    let h = (rw (goes c.loop-refusal.refusal c.loop-refusal.at (length c.args.file.now) c.loop-refusal-test.true).0 at c.loop-refusal.invariant.0) in
-    let loop = c.loop-refusal in
-    let end = stretch_is c.args.file.now loop.at h.in_file c.stretch_end-at.ensures in (
-      stretch_on h loop.out loop.invariant.1 ran.ensures.value ran.ensures.out_after c.put_lines-length.ensures.writes c.put_lines-length.ensures.upper_bound c.stretch_end-at.result end.in_file end.rest,
-      output_stays h loop.out loop.invariant.1 ran.ensures.value ran.ensures.out_after,
+pub put_refusal-requires : goal.put_refusal-requires
+put_refusal-requires c =
+    let h = c.loop-part.invariant in
+    let next = c.in-Some.ensures.steps.1 in
+    let ran = c.run-ran.ensures in
+    let put = c.put_lines-length.ensures in
+    refusal_room h.0 c.in-Some.part.now (chunks_rest c.next.new.self) next.0 h.1 next.1 c.loop-part.out h.2 ran.value ran.out_after put.writes put.upper_bound (some c.in-Some-refusal.why c.in-Some-refusal.is)
+
+pub returns-in-Some-refusal : goal.returns-in-Some-refusal
+returns-in-Some-refusal c =
+    let h = c.loop-part.invariant in
+    let next = c.in-Some.ensures.steps.1 in
+    let ran = c.run-ran.ensures in
+    let put = c.put_lines-length.ensures in
+    let end = c.put_refusal.ensures in
+    stretch_ends h.0 c.in-Some.part.now (chunks_rest c.next.new.self) next.0 h.1 next.1 c.loop-part.out h.2 ran.value ran.out_after put.writes put.upper_bound
+    (some c.in-Some-refusal.why c.in-Some-refusal.is) (rw c.in-Some-refusal.is end.writes) end.upper_bound
+
+pub loop-part-preserved : goal.loop-part-preserved
+loop-part-preserved c =
+    let h = c.loop-part.invariant in
+    let steps = c.in-Some.ensures.steps in
+    let next = steps.1 in
+    let ran = c.run-ran.ensures in
+    let put = c.put_lines-length.ensures in
+    let part = c.in-Some.part.now in
+    let rest = chunks_rest c.next.new.self in (
+      stretch_on h.0 part rest next.0 h.1 next.1 c.loop-part.out h.2 ran.value ran.out_after put.writes put.upper_bound (ap numbered c.in_default.is),
+      steps.0 ∙ h.1,
+      output_stays h.0 part rest next.0 h.1 next.1 c.loop-part.out h.2 ran.value ran.out_after,
     )
 
-pub loop-refusal-smaller : goal.loop-refusal-smaller
-loop-refusal-smaller c =
-    let s = c in
-    let loop = s.loop-refusal in
-    let end = stretch_is s.args.file.now loop.at loop.invariant.0.in_file c.stretch_end-at.ensures in
-    omega (arith, end.far (goes loop.refusal loop.at (length s.args.file.now) s.loop-refusal-test.true).1, end.in_file)
-
 pub returns : goal.returns
-returns c =
-    let put = c.put_end.ensures in
-    let end = c in
-    let loop = end.loop-refusal in
-    listing_ends loop.invariant.0 (no_more loop.refusal loop.at (length end.args.file.now) end.loop-refusal-test.false) put.writes put.upper_bound
-
-pub loop-refusal-init : goal.loop-refusal-init
-loop-refusal-init c = (rw c.fresh-ledger.ensures (listing_starts c.args.file.now c.args.text.now c.requires), refl)
-
-pub run_stretch-ran-requires : goal.run_stretch-ran-requires
-run_stretch-ran-requires c = record { at_in_bounds = c.loop-refusal.invariant.0.in_file; out_len = c.loop-refusal.invariant.1 }
-
-pub stretch_end-at-requires : goal.stretch_end-at-requires
-stretch_end-at-requires c = c.loop-refusal.invariant.0.in_file
-
-pub overflow_cast-ledger : goal.overflow_cast-ledger
-overflow_cast-ledger c = omega (arith, c.loop-refusal.invariant.0.few)
-
-pub overflow_add-ledger : goal.overflow_add-ledger
-overflow_add-ledger c = omega (arith, c.loop-refusal.invariant.0.few)
-
-pub put_end-requires : goal.put_end-requires
-put_end-requires c = c.loop-refusal.invariant.0.end_room_lem
-
-pub shape_of-text : goal.shape_of-text
-shape_of-text c = c.put_end.ensures.writes.as_many ∙ c.loop-refusal.invariant.0.as_long
+returns c = listing_ends c.loop-part.invariant.0 c.in-None.ensures.steps.1.0

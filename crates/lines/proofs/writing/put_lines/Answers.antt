@@ -3,7 +3,6 @@ use mathlib.Core.Path.{◌≡◌, refl}
 use Prim.Native.Nat.{◌*◌}
 use native.Mathlib.Numerals.{add-one}
 use native.Mathlib.Omega.{arith}
-use borrow.Author.Rules.{rules}
 use Rattle.line.specs.Writing.{Writes}
 use Rattle.line.proofs.LineLaws.{line_is}
 use Rattle.line.proofs.Writing.{write_on}
@@ -13,9 +12,8 @@ use Rattle.lines.proofs.writing.put_lines.Goals as goal
 pub put-end-requires : goal.put-end-requires
 put-end-requires c =
     let h = c.loop-i in
-    let s = c in
     let lent = c.line_at.ensures.lendable in
-    record { lendable = lent; len_in_bounds = omega (arith, lent.within, h.invariant.2, h.invariant.1.as_many, c.loop-i-test.true, s.requires.1) }
+    record { lendable = lent; len_in_bounds = omega (arith, lent.within, h.invariant.1, h.invariant.0.as_many, c.loop-i-test.true, c.requires.1) }
 
 pub loop-i-preserved : goal.loop-i-preserved
 unfolding output_lines
@@ -26,21 +24,20 @@ loop-i-preserved c =
     let lent = c.line_at.ensures.lendable in
     let said : Writes h.text h.end (output_text out (48 * h.i)) c.put-end.new.text c.put-end.result
     = rw (line_is c.line_at.ensures.value) at put in (
-      omega (arith, c.loop-i-test.true),
-      rw (add-one h.i) (write_on h.invariant.1 said),
-      omega (arith, put.ends, lent.whole, lent.within, h.invariant.2),
+      rw (add-one h.i) (write_on h.invariant.0 said),
+      omega (arith, put.ends, lent.whole, lent.within, h.invariant.1),
     )
 
 pub returns : goal.returns
 returns c =
     let h = c.loop-i in
-    let all : h.i ≡ c.args.count = omega (arith, c.loop-i-test.false, h.invariant.0) in
-    record { writes = rw all at h.invariant.1; upper_bound = rw all at h.invariant.2 }
+    let all : h.i ≡ c.args.count = omega (arith, c.loop-i-test.false) in
+    record { writes = rw all at h.invariant.0; upper_bound = rw all at h.invariant.1 }
 
 pub loop-i-init : goal.loop-i-init
 unfolding output_lines
-loop-i-init c = (search rules, record { stands = refl; as_many = refl; ends = omega arith }, omega arith)
+loop-i-init c = (record { stands = refl; as_many = refl; ends = omega arith }, omega arith)
 
 pub shape_of-text : goal.shape_of-text
 unfolding output_lines
-shape_of-text c = c.loop-i.invariant.1.as_many
+shape_of-text c = c.loop-i.invariant.0.as_many

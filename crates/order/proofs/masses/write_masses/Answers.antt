@@ -13,8 +13,8 @@ loop-t-preserved c =
     let was = c.mass_at.ensures in
     let wrote = c.write.ensures in
     elim c.if-mass-mass_at.branch [
-      | then-mass-mass_at w ↦ other_done a.file.now a.at a.places c.requires.0 (λ i. (c.type_inv.file i).fits) c.requires.2 a.out.now c.loop-t-test.true c.loop-t.invariant comes was wrote w.if-mass-mass_at.true w.bits-is
-      | else-mass-mass_at w ↦ same_done a.file.now a.at a.places c.requires.0 (λ i. (c.type_inv.file i).fits) c.requires.2 a.out.now c.loop-t-test.true c.loop-t.invariant comes was wrote w.if-mass-mass_at.false w.bits-is
+      | then-mass-mass_at w ↦ other_done a.«record».now a.at a.places c.requires.0 (λ i. (c.type_inv.«record» i).fits) c.requires.2 a.out.now c.loop-t-test.true c.loop-t.invariant comes was wrote w.if-mass-mass_at.true w.bits-is
+      | else-mass-mass_at w ↦ same_done a.«record».now a.at a.places c.requires.0 (λ i. (c.type_inv.«record» i).fits) c.requires.2 a.out.now c.loop-t-test.true c.loop-t.invariant comes was wrote w.if-mass-mass_at.false w.bits-is
     ]
 
 pub returns-clause-value : goal.returns-clause-value

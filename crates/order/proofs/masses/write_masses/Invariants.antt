@@ -3,4 +3,4 @@ use Rattle.order.proofs.Anew.{Done}
 use Rattle.order.proofs.masses.write_masses.Given as goal
 
 abbrev pub invariant-loop-t : goal.invariant-loop-t
-invariant-loop-t l = Done l.file l.at l.places l.initial.out l.out l.bits l.t
+invariant-loop-t l = Done l.«record» l.at l.fn.places l.initial.out l.out l.bits l.t

@@ -27,25 +27,25 @@ placed-more order ok places p l size before q m =
     rw-add : q < p + 1 → q < suc p
     rw-add h = omega arith
 
-pub bounds-order-p : goal.bounds-order-p
-bounds-order-p c = omega (arith, eight_bytes c.args.order.now c.requires)
-
 pub overflow_sub-places : goal.overflow_sub-places
-overflow_sub-places c = (type_at c.args.order.now c.requires c.loop-p.p (omega arith)).0
+overflow_sub-places c = (type_at c.args.order.now c.requires c.loop-p.p (omega (arith, eight_bytes c.args.order.now c.requires))).0
 
-pub bounds-places-order : goal.bounds-places-order
-bounds-places-order c = let here = type_at c.args.order.now c.requires c.loop-p.p (omega arith) in omega (arith, here.0, here.1)
+pub bounds-places-byte : goal.bounds-places-byte
+bounds-places-byte c =
+    let here = type_at c.args.order.now c.requires c.loop-p.p (omega (arith, eight_bytes c.args.order.now c.requires)) in
+    omega (arith, here.0, here.1)
 
 pub loop-p-preserved : goal.loop-p-preserved
 loop-p-preserved c =
     let order = c.args.order.now in
+    let within : c.loop-p.p < 8 = omega (arith, eight_bytes order c.requires) in
     let loop = c.loop-p in (
-      omega arith,
-      length-set loop.places (get_or order loop.p 0 - 1) loop.p ∙ loop.invariant.1,
-      placed-more order c.requires loop.places loop.p (omega arith) loop.invariant.1 loop.invariant.2,
+      length-set loop.places (get_or order loop.p 0 - 1) loop.p ∙ loop.invariant.0,
+      placed-more order c.requires loop.places loop.p within loop.invariant.0 loop.invariant.1,
     )
 
 pub returns : goal.returns
 returns c =
+    let order = c.args.order.now in
     let loop = c.loop-p in
-    places_are c.args.order.now c.requires loop.places loop.invariant.1 (λ p l. loop.invariant.2 p (omega arith))
+    places_are order c.requires loop.places loop.invariant.0 (λ p l. loop.invariant.1 p (omega (arith, eight_bytes order c.requires)))

@@ -1,14 +1,16 @@
--- Before record q the first q records are written, with their bytes of the report, and their bits are counted.
+-- Before record q the first q records are written, with their bytes of the report, and their bits are counted; the rest is still to come.
 use mathlib.Core.Path.{◌≡◌}
 use mathlib.Core.Bool.{Bool}
 use mathlib.Core.List.{List, [], ◌∷◌}
-use Prim.Native.Nat.{ℕ, ◌-◌, ◌≤◌}
-use lib.ListN.{length, get_or}
+use Prim.Native.Nat.{ℕ, ◌*◌, ◌≤◌}
+use lib.ListN.{length, drop, get_or}
 use lib.Seq.{sets}
+use Rattle.std.specs.Iterator.Adapters.{enumerate_source, enumerate_count}
+use Rattle.std.specs.Slice.Iter.{chunks_exact_rest, chunks_exact_size}
 use Rattle.numbers.specs.Eight.{one, sum_of}
 use Rattle.numbers.specs.Lists.{joined}
 use Rattle.order.specs.Order.{eight_bits}
-use Rattle.order.specs.Repair.{rewritten, is_other, record_in, number_of_records}
+use Rattle.order.specs.Repair.{rewritten, is_other, record_in}
 use Rattle.order.proofs.rewrite.rewrite.Given as goal
 
 module _ (file places : List ℕ) where
@@ -25,12 +27,13 @@ module _ (file places : List ℕ) where
   bits q = sum_of (λ t. one (other q t)) 8
 
 abbrev pub invariant-loop-q : goal.invariant-loop-q
-invariant-loop-q l = (l.q ≤ number_of_records l.file)
-    × (l.out ≡ sets l.initial.out 0 (joined (anew l.file l.places) l.q))
-    × (l.report ≡ sets l.initial.report 0 (joined (byte l.file l.places) l.q))
-    × (l.changed ≡ sum_of (bits l.file l.places) l.q)
+invariant-loop-q l =
+    let q = enumerate_count l.q-iterator in
+    (chunks_exact_size (enumerate_source l.q-iterator) ≡ 48)
+    × (chunks_exact_rest (enumerate_source l.q-iterator) ≡ drop (48 * q) l.file)
+    × (48 * q ≤ length l.file)
+    × (l.out ≡ sets l.initial.out 0 (joined (anew l.file l.places) q))
+    × (l.report ≡ sets l.initial.report 0 (joined (byte l.file l.places) q))
+    × (l.changed ≡ sum_of (bits l.file l.places) q)
     × (length l.out ≡ length l.initial.out)
     × (length l.report ≡ length l.initial.report)
-
-abbrev pub decreases-loop-q : goal.decreases-loop-q
-decreases-loop-q l = number_of_records l.file - l.q

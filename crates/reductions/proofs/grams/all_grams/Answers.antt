@@ -1,21 +1,19 @@
--- At the head of the loop, the sum so far and the entries that are left add up to all.
+-- All grams are std's sum of the list, which is small where its entries are light.
 use mathlib.Core.Path.{◌≡◌, ◌∙◌}
-use Prim.Native.Nat.{◌+◌}
 use native.Mathlib.Omega.{arith}
-use borrow.Author.Rules.{rules}
-use lib.ListN.{drop_of_length-le}
-use Rattle.reductions.specs.Stretch.{all_grams}
-use Rattle.reductions.proofs.Entries.{light_most, grams_on}
+use Rattle.std.specs.List.{sum}
+use Rattle.std.proofs.lemmas.Iterator.{YieldsList-from_slice}
+use Rattle.std.proofs.lemmas.Iterator.Consumers.{sum_from_yields_List, fits_from_yields_list}
+use Rattle.reductions.proofs.Entries.{light_most, grams_sum}
 use Rattle.reductions.proofs.grams.all_grams.Goals as goal
 
-pub overflow_add-sum : goal.overflow_add-sum
-overflow_add-sum c =
+pub sum-requires-clause-fits : goal.sum-requires-clause-fits
+sum-requires-clause-fits c =
     let grams = c.args.grams.now in
-    omega (arith, light_most grams c.requires.0, c.requires.1, c.loop-i.invariant.1, grams_on grams c.loop-i.i (search rules))
+    fits_from_yields_list c.iter.result _ (YieldsList-from_slice grams (cc)) (omega (arith, grams_sum grams, light_most grams c.requires.0, c.requires.1))
 
--- nothing is left
 pub returns : goal.returns
 returns c =
     let grams = c.args.grams.now in
-    let all : all_grams grams ≡ c.loop-i.sum + 0 = c.loop-i.invariant.1 ∙ rw (drop_of_length-le grams {i = c.loop-i.i} (search rules)) in
-    (omega (arith, all), omega (arith, all, light_most grams c.requires.0, c.requires.1))
+    let all : c.sum.result ≡ sum grams = sum_from_yields_List c.iter.result _ c.sum.ensures.ran (YieldsList-from_slice grams (cc)) in
+    (all ∙ grams_sum grams, omega (arith, all, grams_sum grams, light_most grams c.requires.0, c.requires.1))

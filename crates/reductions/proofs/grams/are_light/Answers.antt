@@ -1,23 +1,14 @@
--- At the head of the loop, the entries so far and those that are left decide.
-use mathlib.Core.Path.{sym, ◌∙◌}
-use mathlib.Core.Bool.{and_assoc, and-true}
-use Prim.Native.Nat.{◌+◌}
-use borrow.Author.Rules.{rules}
-use lib.Dec.{leb}
-use lib.ListN.{get_or, drop, drop_of_length-le}
-use Rattle.reductions.specs.Stretch.{most_grams, grams_light}
-use Rattle.reductions.proofs.Entries.{light_on}
+-- `grams_light` tests each entry as the closure does.
+use mathlib.Core.Path.{◌∙◌}
+use Rattle.std.proofs.Common.{leb, rules, tests}
+use Rattle.std.proofs.lemmas.Iterator.{YieldsList-from_slice}
+use Rattle.std.proofs.lemmas.Iterator.Search.{all_from_yields_List}
+use Rattle.reductions.specs.Stretch.{most_grams}
+use Rattle.reductions.proofs.Entries.{light_all}
 use Rattle.reductions.proofs.grams.are_light.Goals as goal
 
-pub loop-i-preserved : goal.loop-i-preserved
-loop-i-preserved c =
-    let grams = c.args.grams.now in
-    let i = c.loop-i.i in (
-      search rules,
-      c.loop-i.invariant.1 ∙ rw (light_on grams i (search rules)) (sym (and_assoc c.loop-i.all (leb (get_or grams i 0) most_grams) (grams_light (drop (i + 1) grams)))),
-    )
-
--- nothing is left
 pub returns : goal.returns
-unfolding grams_light
-returns c = sym (c.loop-i.invariant.1 ∙ rw (drop_of_length-le c.args.grams.now {i = c.loop-i.i} (search rules)) (and-true c.loop-i.all))
+returns c =
+    let grams = c.args.grams.now in
+    all_from_yields_List (λ entry. leb entry most_grams) _ _ _ c.all.ensures.ran (YieldsList-from_slice grams (cc)) (λ x b q k. search (rules, tests))
+    ∙ light_all grams

@@ -4,4 +4,4 @@ use Rattle.releases.proofs.MidColumn.{MidColumn}
 use Rattle.releases.proofs.column.fill_column.Given as goal
 
 abbrev pub invariant-loop-i : goal.invariant-loop-i
-invariant-loop-i l = MidColumn l.file l.initial.column l.t l.entry l.column l.stock l.i
+invariant-loop-i g l = MidColumn l.file l.initial.column g.row.T l.entry l.column l.stock l.i

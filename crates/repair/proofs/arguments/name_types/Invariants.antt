@@ -1,10 +1,7 @@
--- Before place p the types that the digits passed name stand in their places.
-use Rattle.std.proofs.Common.{length, ◌-◌, ◌≡◌, ◌≤◌}
+-- The types of the digits passed stand in their places.
+use Rattle.std.proofs.Common.{◌≡◌}
 use Rattle.repair.proofs.Named.{named_to}
 use Rattle.repair.proofs.arguments.name_types.Given as goal
 
-abbrev pub invariant-loop-p : goal.invariant-loop-p
-invariant-loop-p l = (l.p ≤ length l.initial.word) × (length l.word ≡ length l.initial.word) × (l.word ≡ named_to l.p l.initial.word)
-
-abbrev pub decreases-loop-p : goal.decreases-loop-p
-decreases-loop-p l = length l.initial.word - l.p
+abbrev pub invariant-loop-byte : goal.invariant-loop-byte
+invariant-loop-byte l = l.word ≡ named_to l.byte-index l.initial.word

@@ -6,8 +6,8 @@ use Rattle.stretches.specs.Stretches.{stretch_bytes}
 use Rattle.tunisia.proofs.MidYears.{MidYears}
 use Rattle.tunisia.proofs.accepted.run_years.Given as goal
 
-abbrev pub invariant-loop-refusal : goal.invariant-loop-refusal
-invariant-loop-refusal l = (MidYears l.first l.last l.file l.ledger l.walked l.at l.refusal) × (length l.out ≡ stretch_bytes)
+abbrev pub invariant-loop-at : goal.invariant-loop-at
+invariant-loop-at l = (MidYears l.stretch.first l.stretch.last l.file l.ledger l.walked l.at 0) × (length l.out ≡ stretch_bytes)
 
-abbrev pub decreases-loop-refusal : goal.decreases-loop-refusal
-decreases-loop-refusal l = length l.file - l.at
+abbrev pub decreases-loop-at : goal.decreases-loop-at
+decreases-loop-at l = length l.file - l.at

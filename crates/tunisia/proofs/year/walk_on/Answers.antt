@@ -9,7 +9,7 @@ use Rattle.figure.proofs.Laws.{b_of_most}
 use Rattle.reductions.specs.Year.{reference_of, project_of, project_bound, reference_bound, bounds_of, with_year}
 use Rattle.tunisia.specs.Walk.{next_year, walked_on}
 use Rattle.tunisia.proofs.year.walk_on.Goals as goal
-use Rattle.tunisia.proofs.year.walk_on.Goals.{then-is_between, else-is_between}
+use Rattle.tunisia.proofs.year.walk_on.Goals.{then-contains, else-contains}
 
 pub with_year-sums-requires-clause-x0_bound : goal.with_year-sums-requires-clause-x0_bound
 with_year-sums-requires-clause-x0_bound c =
@@ -23,9 +23,9 @@ pub returns : goal.returns
 unfolding walked_on with_year next_year reference_of project_of bounds_of reference_bound project_bound
 returns c =
     let a = c.args in
-    let sums_are : c.if-is_between.sums ≡ cond (between a.first (a.walked.n + 1) a.last) (with_year a.walked.sums (next_year a.walked a.bytes.now)) a.walked.sums
-    = elim c.if-is_between.branch [
-      | then-is_between w ↦ w.sums-is ∙ w.with_year-sums.ensures ∙ rw (w.margins.ensures, w.of.ensures, ← c.is_between.ensures, w.if-is_between.true)
-      | else-is_between w ↦ w.sums-is ∙ rw (← c.is_between.ensures, w.if-is_between.false)
+    let sums_are : c.if-contains.sums ≡ cond (between a.stretch.first (a.walked.n + 1) a.stretch.last) (with_year a.walked.sums (next_year a.walked a.bytes.now)) a.walked.sums
+    = elim c.if-contains.branch [
+      | then-contains w ↦ w.sums-is ∙ w.with_year-sums.ensures ∙ rw (w.margins.ensures, w.of.ensures, ← c.contains.ensures, w.if-contains.true)
+      | else-contains w ↦ w.sums-is ∙ rw (← c.contains.ensures, w.if-contains.false)
     ] in
     rw (sums_are, c.deposited.ensures)

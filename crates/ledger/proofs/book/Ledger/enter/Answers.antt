@@ -15,8 +15,8 @@ use Rattle.ledger.proofs.Settle.{none_released}
 use Rattle.ledger.proofs.Accepted.{Accepted, accepted_meets, stays_sound, has_room, room_alike}
 use Rattle.ledger.proofs.book.Ledger.enter.Goals as goal
 
-pub decay_all-all-requires : goal.decay_all-all-requires
-decay_all-all-requires c =
+pub decay_all-x0-requires : goal.decay_all-x0-requires
+decay_all-x0-requires c =
     let enough : record_bytes ≤ length c.args.out.now = has_room c.args.self c.args.bytes.now (length c.args.out.now) c.requires.out_value in
     let s = c in
     record { record_bytes_value = room_alike s.args.self s.args.bytes.now record_bytes (length s.args.out.now) (omega arith) enough ∙ s.requires.out_value; entries_value = s.requires.entries_value }
@@ -27,7 +27,7 @@ less-released-requires c =
     let taken : Accepted c.args.self c.args.bytes.now = accepted_meets c.args.self c.args.bytes.now (length c.args.out.now) c.requires.out_value in
     let next-sound : Sound (after c.args.self c.args.bytes.now) = sound_is (after c.args.self c.args.bytes.now) (stays_sound c.args.self c.args.bytes.now taken) in
     λ t place.
-    rw c.decay_all-all.ensures (next-sound.at t place).kept
+    rw c.decay_all-x0.ensures (next-sound.at t place).kept
 
 pub filed-says-requires : goal.filed-says-requires
 unfolding period_of_all after
@@ -35,7 +35,7 @@ filed-says-requires c =
     let taken : Accepted c.args.self c.args.bytes.now = accepted_meets c.args.self c.args.bytes.now (length c.args.out.now) c.requires.out_value in
     let next-sound : Sound (after c.args.self c.args.bytes.now) = sound_is (after c.args.self c.args.bytes.now) (stays_sound c.args.self c.args.bytes.now taken) in
     let s = c in
-    let all = c.decay_all-all.ensures in
+    let all = c.decay_all-x0.ensures in
     record { bytes_value = taken.ranges; x0_value = rw all (none_released s.args.self s.args.bytes.now); by_index = λ t place. rw all (let w = next-sound.at t place in (w.small, omega (arith, w.kept, w.small))) }
 
 pub returns : goal.returns
@@ -46,9 +46,9 @@ returns c =
     let released-is : let l = c.args.self in let bytes = c.args.bytes.now in
     eight (λ t. get_or (eight (new_brought l bytes)) t 0 - get_or (eight (new_stock l bytes)) t 0) ≡ eight (new_released l bytes) = gone_is (after c.args.self c.args.bytes.now) (stays_sound c.args.self c.args.bytes.now taken) in
     let says_is : let a = c.args in
-    c.filed-says.result ≡ output_fields (accepted_of a.self a.bytes.now) = c.filed-says.ensures ∙ rw c.decay_all-all.ensures in
+    c.filed-says.result ≡ output_fields (accepted_of a.self a.bytes.now) = c.filed-says.ensures ∙ rw c.decay_all-x0.ensures in
     let f = c in
-    let s = f in record { value = rw (says_is, f.less-released.ensures, f.after-year.ensures, f.decay_all-all.ensures, released-is); out_after = (simp (le-leb record_bytes (length s.args.out.now) enough) at c.write.ensures) ∙ rw says_is }
+    let s = f in record { value = rw (says_is, f.less-released.ensures, f.after-year.ensures, f.decay_all-x0.ensures, released-is); out_after = (simp (le-leb record_bytes (length s.args.out.now) enough) at c.write.ensures) ∙ rw says_is }
 
 pub overflow_add-n : goal.overflow_add-n
 overflow_add-n c =

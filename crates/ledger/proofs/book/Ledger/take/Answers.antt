@@ -6,7 +6,9 @@ use Prim.Native.Nat.{ℕ, ◌-◌}
 use native.Mathlib.Omega.{arith}
 use lib.ListN.{length, get_or}
 use Rattle.numbers.specs.Eight.{eight}
+use Rattle.refusal.specs.Numbers.{number_of}
 use Rattle.refusal.proofs.Laws.{first_with_masses}
+use Rattle.refusal.proofs.Numbers.{number_some}
 use Rattle.ledger.specs.Refusal.{refusal_of}
 use Rattle.ledger.specs.Take.{accepted_of, entered_of, output_fields, take_of}
 use Rattle.ledger.specs.declared.book.Ledger.{Ledger}
@@ -22,41 +24,34 @@ answer_is : (l : Ledger) (bytes : List ℕ) (room : ℕ) {e : Entered} {releases
 unfolding entered_of accepted_of output_fields
 answer_is l bytes room none entered since = rw (taken l bytes room none, since, entered, released_between l bytes)
 
-pub returns-then-refusal-ne0 : goal.returns-then-refusal-ne0
+pub returns-in-Some : goal.returns-in-Some
 unfolding refusal_of
-returns-then-refusal-ne0 c =
+returns-in-Some c =
     let a = c.args in
-    let found : c.with_masses-refusal.result ≡ refusal_of a.self a.bytes.now (length a.out.now) =
-    rw (c.early-early.ensures, c.is_sound-good.ensures) at c.with_masses-refusal.ensures
+    let found : number_of c.in-Some.why ≡ refusal_of a.self a.bytes.now (length a.out.now) =
+    rw (c.early-early.ensures, c.is_sound-good.ensures) at c.in-Some.ensures
     ∙ sym (first_with_masses _ _ _ _ _ _ _) in
-    let r = refused_by a.self a.bytes.now a.out.now c.with_masses-refusal.result (sym found) c.if-refusal-ne0.true in
-    record { value = c.refused.ensures ∙ r.0; out_after = r.1 }
+    let r = refused_by a.self a.bytes.now a.out.now (number_of c.in-Some.why) (sym found) (number_some c.in-Some.why) in
+    record { value = r.0; out_after = r.1 }
 
-pub enter-entered-requires : goal.enter-entered-requires
+pub enter-requires-clause-out_value : goal.enter-requires-clause-out_value
 unfolding refusal_of
-enter-entered-requires c =
-    let a = c.args in
-    let found : c.with_masses-refusal.result ≡ refusal_of a.self a.bytes.now (length a.out.now) =
-    rw (c.early-early.ensures, c.is_sound-good.ensures) at c.with_masses-refusal.ensures
-    ∙ sym (first_with_masses _ _ _ _ _ _ _) in
-    let none : refusal_of a.self a.bytes.now (length a.out.now) ≡ 0 = sym found ∙ c.if-refusal-ne0.false in
-    record { out_value = none; entries_value = rw (← c.climate.ensures, ← c.kind.ensures) c.entries-entries.ensures }
+enter-requires-clause-out_value c =
+    first_with_masses _ _ _ _ _ _ _ ∙ sym (rw (c.early-early.ensures, c.is_sound-good.ensures) at c.in_default.ensures)
 
 pub less-requires : goal.less-requires
 unfolding entered_of accepted_of
 less-requires c = λ t place.
     let a = c.args in
-    rw c.enter-entered.ensures.value (omega (arith, released_after a.self a.bytes.now t place))
+    rw c.enter.ensures.value (omega (arith, released_after a.self a.bytes.now t place))
 
 pub returns : goal.returns
 unfolding refusal_of
 returns c =
     let a = c.args in
-    let found : c.with_masses-refusal.result ≡ refusal_of a.self a.bytes.now (length a.out.now) =
-    rw (c.early-early.ensures, c.is_sound-good.ensures) at c.with_masses-refusal.ensures
-    ∙ sym (first_with_masses _ _ _ _ _ _ _) in
-    let none : refusal_of a.self a.bytes.now (length a.out.now) ≡ 0 = sym found ∙ c.if-refusal-ne0.false in
+    let none : refusal_of a.self a.bytes.now (length a.out.now) ≡ 0 =
+    first_with_masses _ _ _ _ _ _ _ ∙ sym (rw (c.early-early.ensures, c.is_sound-good.ensures) at c.in_default.ensures) in
     record {
-      value = answer_is a.self a.bytes.now (length a.out.now) none c.enter-entered.ensures.value c.less.ensures;
-      out_after = c.enter-entered.ensures.out_after ∙ sym (accepted_writes a.self a.bytes.now a.out.now none);
+      value = answer_is a.self a.bytes.now (length a.out.now) none c.enter.ensures.value c.less.ensures;
+      out_after = c.enter.ensures.out_after ∙ sym (accepted_writes a.self a.bytes.now a.out.now none);
     }

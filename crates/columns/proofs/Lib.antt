@@ -1,0 +1,2 @@
+mod Short
+pub mod OneFilled
