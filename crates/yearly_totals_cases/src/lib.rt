@@ -30,7 +30,10 @@ fn fill(totals: &mut [u8], given: &[u8]) {
 fn used(totals: &[u8]) -> usize
     ensures { result ≤ length totals.now }
 {
-    totals.iter().rposition(|byte| *byte != 0).map_or(0, |last| last + 1)
+    totals
+        .iter()
+        .rposition(|byte| *byte != 0)
+        .map_or(0, |last| last + 1)
 }
 
 // Prints the buffers that were lent, the last words of a line.
