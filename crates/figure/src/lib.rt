@@ -76,10 +76,9 @@ pub fn margins(n: u16, brought: [u64; 8]) -> u64
 {
     let mut types = 0u64;
     let mut shares = 0u64;
-    // tried: a loop over the values, here and in `carbon::total`, takes 600 instructions a record of a run in place of 596
-    for t in 0..8 {
-        types += counted(brought[t]);
-        shares += share(n, brought[t]);
+    for of_type in &brought {
+        types += counted(*of_type);
+        shares += share(n, *of_type);
     }
     types * (n as u64 + 1) + shares
 }

@@ -1,4 +1,4 @@
--- Before place t the loop has counted the types that brought something in, and added the shares, of the first t types.
+-- Before a place the loop has counted the types that brought something in, and added the shares, of the types before it.
 use Rattle.std.proofs.Common.{◌≡◌, ℕ, ◌+◌, ◌*◌, ◌/◌, ◌^◌, cond, eqb, get_or, add-one, ne_eqb, eq-eqb, arith}
 use native.Mathlib.Decide.{ℕ_discrete}
 use Rattle.figure.specs.Figure.{margin_of, b_of}
@@ -18,20 +18,19 @@ goes_on : (types one n shares share : ℕ) {sum margin : ℕ} → types * (n + 1
     → (types + one) * (n + 1) + (shares + share) ≡ sum + margin
 goes_on types one n shares share e m = omega (arith, e, m)
 
-pub loop-t-preserved : goal.loop-t-preserved
-loop-t-preserved c =
+pub loop-of_type-preserved : goal.loop-of_type-preserved
+loop-of_type-preserved c =
     let a = c.args in
-    let at = c.loop-t in
-    let T = get_or a.brought at.t 0 in (
-      omega arith,
-      rw (add-one at.t) (goes_on at.types c.counted-types.result a.n at.shares c.share-shares.result at.invariant.1
+    let at = c.loop-of_type in
+    let T = get_or a.brought at.of_type-index 0 in (
+      rw (add-one at.of_type-index) (goes_on at.types c.counted-types.result a.n at.shares c.share-shares.result at.invariant.0
           (margin_is a.n T c.counted-types.ensures.0 c.share-shares.ensures.0)),
-      omega (arith, at.invariant.2, c.counted-types.ensures.1),
-      omega (arith, at.invariant.3, c.share-shares.ensures.1),
+      omega (arith, at.invariant.1, c.counted-types.ensures.1),
+      omega (arith, at.invariant.2, c.share-shares.ensures.1),
     )
 
 pub returns : goal.returns
 unfolding b_of
 returns c =
-    let all : c.loop-t.t ≡ 8 = omega arith in
-    rw all at c.loop-t.invariant.1
+    let all : c.loop-of_type.of_type-index ≡ 8 = omega arith in
+    rw all at c.loop-of_type.invariant.0
