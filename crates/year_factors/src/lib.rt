@@ -36,11 +36,17 @@ impl YearFactors {
         }
     }
 
-    // Tells whether a record has the same.
+    // Tells whether a record has the same; test by test, which takes fewer instructions than all three together.
     fn is_repeated(self, bytes: &[u8]) -> bool
         ensures { result ≡ repeats self bytes.now }
     {
-        YearFactors::of(bytes) == self
+        if record::factor(bytes) != self.factor {
+            return false;
+        }
+        if record::class(bytes) != self.class {
+            return false;
+        }
+        record::captured(bytes) == self.captured
     }
 
     // Tells whether a record behind n others may come: it is yearly, or has the same, or begins a year.
