@@ -36,7 +36,7 @@ impl YearFactors {
         }
     }
 
-    // Tells whether a record has the same; test by test, which takes fewer instructions than all three together.
+    // Tells whether a record has the same. Tried: `YearFactors::of(bytes) == self`, which takes 4 instructions a record of a run more.
     fn is_repeated(self, bytes: &[u8]) -> bool
         ensures { result ≡ repeats self bytes.now }
     {
