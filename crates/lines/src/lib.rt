@@ -6,7 +6,7 @@ mod by_stretch;
 mod room;
 mod writing;
 
-ghost use Rattle.std.specs.Prelude.{◌≡◌, ◌+◌, ◌≤◌, length, IfOk};
+ghost use Rattle.std.specs.Prelude.{◌≡◌, ◌+◌, ◌≤◌, length};
 ghost use Rattle.carbon.specs.Carbon.{most_records};
 ghost use Rattle.run.specs.History.{records_begun};
 ghost use Rattle.lines.specs.Listing.{most_lines, numbers_of, listed_of, text_of, LendableText};
@@ -36,7 +36,7 @@ fn most_lines(bytes: usize) -> usize
 pub fn listing(file: &[u8], text: &mut [u8]) -> Result<usize, NoRoom>
     ensures value { numbers_of result ≡ listed_of file.now (length text.old) }
     ensures text_after { text.new ≡ text_of file.now text.old }
-    ensures lendable_text { IfOk result (λ length. LendableText length text.new) }
+    ensures lendable_text { LendableText (numbers_of result).length text.new }
 {
     if text.len() < line::BYTES * most_lines(file.len()) {
         return Err(NoRoom);

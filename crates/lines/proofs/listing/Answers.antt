@@ -2,7 +2,6 @@
 use mathlib.Core.Path.{◌≡◌}
 use Prim.Native.Nat.{◌*◌, ◌≤◌}
 use native.Mathlib.Omega.{arith}
-use borrow.Author.Rules.{rules}
 use lib.ListN.{length}
 use Rattle.run.proofs.History.{records_count}
 use Rattle.line.specs.Line.{line_bytes}
@@ -18,7 +17,7 @@ unfolding room_for
 returns-then-text-most_lines c =
     let room-is : line_bytes * c.most_lines.result ≡ room_for c.args.file.now = rw (c.most_lines.ensures.0, records_count c.args.file.now) in
     let is = text_too_short c.args.file.now c.args.text.now (rw (← room-is) c.if-text-most_lines.true) in
-    record { value = is.0; text_after = is.1.0; lendable_text = search rules }
+    record { value = is.0; text_after = is.1.0; lendable_text = is.1.1 }
 
 pub write_listing-requires : goal.write_listing-requires
 unfolding room_for
