@@ -1,6 +1,6 @@
 -- The public functions of `line`.
-use Rattle.line.proofs.text.put.Reads as put
-use Rattle.line.proofs.text.put_number.Reads as put_number
+use Rattle.line.proofs.put.Reads as put
+use Rattle.line.proofs.put_number.Reads as put_number
 use Rattle.line.proofs.accepted.Reads as accepted
 use Rattle.line.proofs.refused.Reads as refused
 use Rattle.promise_answers.proofs.OneAnswer.{OneAnswer, Settled, by_equation, ◌&◌, both}
