@@ -1,7 +1,6 @@
 -- The public functions of `columns`: the answer and all nine columns, and the number of a refusal.
 use mathlib.Core.Path.{sym, ◌∙◌}
 use Rattle.columns.specs.Lent.{lent}
-use Rattle.columns.specs.Refused.{numbers_of}
 use Rattle.columns.proofs.OneFilled.{one_filled}
 use Rattle.columns.proofs.fill.Reads as fill
 use Rattle.columns.proofs.refused.ColumnsRefusal.number.Reads as number
