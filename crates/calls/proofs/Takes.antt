@@ -12,7 +12,7 @@ use lib.Seq.{take_all, length-take-le}
 use Rattle.record.specs.Fields.{record_bytes}
 use Rattle.ledger.specs.Refusal.{refusal_of}
 use Rattle.ledger.specs.Take.{accepted_of, take_of, written_of, output_record}
-use Rattle.run.specs.History.{Run, run_of}
+use Rattle.run.specs.History.{Run, run_of, outcome_of}
 use Rattle.ledger.specs.declared.book.Ledger.{Ledger}
 use Rattle.ledger.specs.Answer.{Answer}
 use Rattle.ledger.proofs.Accepted.{accepted_meets, has_room}
@@ -20,7 +20,7 @@ use Rattle.ledger.proofs.Take.{taken, take_refusal, refused_writes_nothing}
 use Rattle.run.proofs.History.{run_stops, run_ends}
 use Rattle.image.specs.Image.{image_bytes, no_ledger, ledger_of, image_of, imaged}
 use Rattle.image.proofs.Laws.{image_fills}
-use Rattle.calls.specs.Calls.{answer_bytes, room_of, image_then, out_then, take_here, take_out, run_image}
+use Rattle.calls.specs.Calls.{answer_bytes, room_of, image_then, out_then, image_over, ended_over, take_here, take_out, run_image}
 
 -- A record is accepted only where the bytes are an image.
 pub accepted_image : (image bytes : List ℕ) (room : ℕ) → refusal_of (ledger_of image) bytes room ≡ 0 → length image ≡ image_bytes
@@ -85,13 +85,14 @@ module _ (out answer : List ℕ) (room : ℕ) (e : room ≡ room_of (length out)
         | no z ↦ rw (w, when_not a.refusal (output_record a ++ drop record_bytes part) part z) (take-append-drop room out ∙ sym (when_not a.refusal (output_record a ++ drop record_bytes out) out z))
       ]
 
-pub image_next : (a : Answer) (image : List ℕ) → length image ≡ image_bytes → a.refusal ≡ 0 → imaged a.ledger image ≡ image_then a image
-unfolding image_then
-image_next a image size z = image_fills a.ledger image size ∙ sym (when_zero a.refusal (image_of a.ledger) image z)
-
-pub image_stays : (a : Answer) (image : List ℕ) → (a.refusal ≡ 0 → ⊥) → image_then a image ≡ image
-unfolding image_then
-image_stays a image z = when_not a.refusal (image_of a.ledger) image z
+-- An accepted record's image is written over an image, by the step that accepts it.
+pub image_kept : (a : Answer) (image : List ℕ) → (a.refusal ≡ 0 → length image ≡ image_bytes) → image_over a image ≡ image_then a image
+unfolding image_over image_then
+image_kept a image size =
+    elim (ℕ_discrete a.refusal 0) [
+      | yes z ↦ when_zero a.refusal (imaged a.ledger image) image z ∙ image_fills a.ledger image (size z) ∙ sym (when_zero a.refusal (image_of a.ledger) image z)
+      | no z ↦ when_not a.refusal (imaged a.ledger image) image z ∙ sym (when_not a.refusal (image_of a.ledger) image z)
+    ]
 
 -- One record, with so much of the output lent: the step on that part is the step that is promised.
 module _ (image bytes out answer : List ℕ) (room : ℕ) (e : room ≡ room_of (length out) (length answer)) where
@@ -120,7 +121,7 @@ module _ (image bytes out answer : List ℕ) (room : ℕ) (e : room ≡ room_of 
   image_of_lem z = accepted_image image bytes room (plain z)
 
 -- A run that accepts a record began from an image.
-ran_image : (image : List ℕ) (records : List (List ℕ)) (room : ℕ) → 0 < length (run_of (ledger_of image) records room).accepted → length image ≡ image_bytes
+pub ran_image : (image : List ℕ) (records : List (List ℕ)) (room : ℕ) → 0 < length (run_of (ledger_of image) records room).accepted → length image ≡ image_bytes
 ran_image image [] room h = absurd (omega (arith, ap (λ (r : Run). length r.accepted) (run_ends (ledger_of image) room)))
 ran_image image (bytes ∷ rest) room h =
     elim (ℕ_discrete (refusal_of (ledger_of image) bytes room) 0) [
@@ -128,15 +129,12 @@ ran_image image (bytes ∷ rest) room h =
       | no e ↦ absurd (omega (arith, ap (λ (r : Run). length r.accepted) (run_stops (ledger_of image) bytes rest room (refusal_of (ledger_of image) bytes room) refl e)))
     ]
 
--- The image that a run leaves.
-pub run_stays : (image : List ℕ) (r : Run) → length r.accepted ≡ 0 → run_image image r ≡ image
-unfolding run_image
-run_stays image r e = when_zero (length r.accepted) image (image_of r.ledger) e
-
-pub run_next : (image : List ℕ) (records : List (List ℕ)) (room : ℕ) → let r = run_of (ledger_of image) records room in
-    0 < length r.accepted → imaged r.ledger image ≡ run_image image r
-unfolding run_image
-run_next image records room h =
-    let r = run_of (ledger_of image) records room in
-    image_fills r.ledger image (ran_image image records room h)
-    ∙ sym (when_not (length r.accepted) image (image_of r.ledger) (λ e. omega arith))
+-- The image that a run leaves, where one that accepts a record began from an image.
+pub image_ended : (image : List ℕ) (r : Run) → (0 < length r.accepted → length image ≡ image_bytes) → ended_over (outcome_of r) image ≡ run_image image r
+unfolding ended_over run_image outcome_of
+image_ended image r size =
+    let n = length r.accepted in
+    elim (ℕ_discrete n 0) [
+      | yes z ↦ when_zero n image (imaged r.ledger image) z ∙ sym (when_zero n image (image_of r.ledger) z)
+      | no z ↦ when_not n image (imaged r.ledger image) z ∙ image_fills r.ledger image (size (omega arith)) ∙ sym (when_not n image (image_of r.ledger) z)
+    ]

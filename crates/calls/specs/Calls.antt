@@ -5,7 +5,8 @@ use Rattle.record.specs.Fields.{record_bytes}
 use Rattle.ledger.specs.Take.{take_of, output_record}
 use Rattle.run.specs.History.{Offer, Run, records_of, in_turn, run_of}
 use Rattle.ledger.specs.Answer.{Answer}
-use Rattle.image.specs.Image.{image_of, ledger_of}
+use Rattle.run.specs.Outcome.{Outcome}
+use Rattle.image.specs.Image.{image_of, ledger_of, imaged}
 
 -- The eight releases, x0, figure and bound of an answer, in 8 bytes each.
 abbrev pub answer_bytes : ℕ
@@ -28,6 +29,13 @@ image_then a image = cond (eqb a.refusal 0) (image_of a.ledger) image
 
 unfoldable pub out_then : Answer → List ℕ → List ℕ
 out_then a out = cond (eqb a.refusal 0) (output_record a ++ drop record_bytes out) out
+
+-- What is left of bytes that need be no image, by an answer and by the end of a run: the ledger is written over bytes of that length alone.
+unfoldable pub image_over : Answer → List ℕ → List ℕ
+image_over a image = cond (eqb a.refusal 0) (imaged a.ledger image) image
+
+unfoldable pub ended_over : Outcome → List ℕ → List ℕ
+ended_over o image = cond (eqb o.accepted 0) image (imaged o.ledger image)
 
 -- One record, offered with that room.
 module _ (image bytes out answer : List ℕ) where

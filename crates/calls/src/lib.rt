@@ -8,10 +8,12 @@ ghost use Rattle.ledger.specs.declared.book.Ledger.{Ledger};
 ghost use Rattle.ledger.specs.Take.{take_of, written_of};
 ghost use Rattle.ledger.specs.Numbers.{answer_numbers};
 ghost use Rattle.run.specs.History.{out_of, work_over};
-ghost use Rattle.calls.specs.Calls.{answered, room_of, take_here, take_image, take_out, take_answer, run_here, run_image};
+ghost use Rattle.run.specs.Outcome.{outcome_numbers};
+ghost use Rattle.calls.specs.Calls.{answered, image_over, ended_over, room_of, take_here, take_image, take_out, take_answer, run_here, run_image};
 
 use ledger::{Ledger, Taken};
 use refusal::Refusal;
+use run::RunEnd;
 
 // The bytes of an answer.
 const ANSWER_BYTES: usize = 88;
@@ -55,6 +57,39 @@ fn take_one(ledger: Ledger, bytes: &[u8], out: &mut [u8]) -> Result<Taken, Refus
     end.taken(ledger, out)
 }
 
+// Keeps what a step of one record made, by month or by year: writes the image of the ledger and the answer, or answers the refusal's
+// number.
+pub fn keep(image: &mut [u8], answer: &mut [u8], taken: Result<Taken, Refusal>) -> u8
+    ensures value { (l : Ledger) → result ≡ (answer_numbers l taken).refusal }
+    ensures image_after { (l : Ledger) → image.new ≡ image_over (answer_numbers l taken) image.old }
+    ensures answer_after { (l : Ledger) → answer.new ≡ answered (answer_numbers l taken) answer.old }
+{
+    write_answer(answer, taken);
+    match taken {
+        Ok(taken) => {
+            image::write(image, taken.ledger);
+            0
+        }
+        Err(why) => why.number(),
+    }
+}
+
+// Keeps the end of a run, with yearly totals or without: writes how many records were accepted, their decay work, and the image of the
+// ledger where there are any; answers the refusal's number, 0 if none.
+pub fn end_run(image: &mut [u8], accepted: &mut u64, work: &mut u64, end: RunEnd) -> u8
+    ensures value { result ≡ (outcome_numbers end).refusal }
+    ensures image_after { image.new ≡ ended_over (outcome_numbers end) image.old }
+    ensures accepted_after { accepted.new ≡ end.accepted }
+    ensures work_after { work.new ≡ end.work }
+{
+    *accepted = end.accepted;
+    *work = end.work;
+    if end.accepted > 0 {
+        image::write(image, end.ledger);
+    }
+    refusal::number_or_zero(end.refusal)
+}
+
 // Takes one record: the image, the output and the answer are written, or the refusal's number comes back.
 pub fn take(image: &mut [u8], record: &[u8], out: &mut [u8], answer: &mut [u8]) -> u8
     ensures value { result ≡ (take_here image.old «record».now out.old answer.old).refusal }
@@ -64,14 +99,7 @@ pub fn take(image: &mut [u8], record: &[u8], out: &mut [u8], answer: &mut [u8]) 
 {
     let room = room(out.len(), answer.len());
     let taken = take_one(image::read(image), record, &mut out[..room]);
-    write_answer(answer, taken);
-    match taken {
-        Ok(taken) => {
-            image::write(image, taken.ledger);
-            0
-        }
-        Err(why) => why.number(),
-    }
+    keep(image, answer, taken)
 }
 
 // Takes the records of a file one after another, writes an output record for each accepted one, and leaves the image of the
@@ -90,10 +118,5 @@ pub fn run(
     ensures work_after { work.new ≡ work_over (run_here image.old records.now (length out.old)).accepted }
 {
     let end = run::run(image::read(image), records, out);
-    *accepted = end.accepted;
-    *work = end.work;
-    if end.accepted > 0 {
-        image::write(image, end.ledger);
-    }
-    refusal::number_or_zero(end.refusal)
+    end_run(image, accepted, work, end)
 }

@@ -12,16 +12,15 @@ use Rattle.ledger.specs.Take.{accepted_of, output_record}
 use Rattle.ledger.specs.declared.book.Ledger.{Ledger}
 use Rattle.ledger.specs.Answer.{Answer}
 use Rattle.ledger.proofs.Accepted.{has_room}
-use Rattle.run.specs.History.{records_of, Run}
-use Rattle.image.specs.Image.{image_bytes, ledger_of, image_of, imaged}
-use Rattle.image.proofs.Laws.{image_fills}
-use Rattle.calls.specs.Calls.{room_of, out_then, run_image}
+use Rattle.run.specs.History.{Run}
+use Rattle.image.specs.Image.{image_bytes, ledger_of}
+use Rattle.calls.specs.Calls.{room_of, out_then}
 use Rattle.calls.proofs.Takes.{when_not, accepted_image, part_length, out_left_lem}
 use Rattle.year_slots.specs.Slots.{totals_bytes}
 use Rattle.yearly_totals.specs.Months.{month_refusal, take_month_of, month_totals, written_month, month_run_of}
 use Rattle.yearly_totals.proofs.Refusals.{taken_meets}
 use Rattle.yearly_totals.proofs.Turns.{taken_month, month_refusal_lem, wrong_run, month_stops, month_ends}
-use Rattle.month_calls.specs.MonthCalls.{take_month_here, month_totals_here, run_months_here}
+use Rattle.month_calls.specs.MonthCalls.{take_month_here, month_totals_here}
 
 -- What a step writes goes by its answer.
 written_then : (l : Ledger) (totals bytes out : List ℕ) → written_month l totals bytes out ≡ out_then (take_month_of l totals bytes (length out)) out
@@ -65,8 +64,8 @@ module _ (image totals bytes out answer : List ℕ) (room : ℕ) (e : room ≡ r
   pub image_of_lem : a.refusal ≡ 0 → length image ≡ image_bytes
   image_of_lem z = accepted_image image bytes room (plain z)
 
--- A run that accepts a record began from an image, and leaves that of its end ledger.
-ran_image : (image totals : List ℕ) (records : List (List ℕ)) (room : ℕ) → 0 < length (month_run_of (ledger_of image) totals records room).accepted → length image ≡ image_bytes
+-- A run that accepts a record began from an image.
+pub ran_image : (image totals : List ℕ) (records : List (List ℕ)) (room : ℕ) → 0 < length (month_run_of (ledger_of image) totals records room).accepted → length image ≡ image_bytes
 ran_image image totals records room h =
     elim (ℕ_discrete (length totals) totals_bytes) [
       | yes size ↦ right records size h
@@ -80,11 +79,3 @@ ran_image image totals records room h =
           | yes e ↦ accepted_image image bytes room (taken_meets (ledger_of image) totals bytes room e).none
           | no e ↦ absurd (omega (arith, ap (λ (r : Run). length r.accepted) (month_stops (ledger_of image) totals size bytes rest room (month_refusal (ledger_of image) totals bytes room) refl e)))
         ]
-
-pub run_next : (image totals file : List ℕ) (room : ℕ) → let r = run_months_here image totals file room in
-    0 < length r.accepted → imaged r.ledger image ≡ run_image image r
-unfolding run_image run_months_here
-run_next image totals file room h =
-    let r = month_run_of (ledger_of image) totals (records_of file) room in
-    image_fills r.ledger image (ran_image image totals (records_of file) room h)
-    ∙ sym (when_not (length r.accepted) image (image_of r.ledger) (λ e. omega arith))

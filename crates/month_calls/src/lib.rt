@@ -24,14 +24,7 @@ pub fn take(
 {
     let room = calls::room(out.len(), answer.len());
     let taken = yearly_totals::take_month(image::read(image), totals, record, &mut out[..room]);
-    calls::write_answer(answer, taken);
-    match taken {
-        Ok(taken) => {
-            image::write(image, taken.ledger);
-            0
-        }
-        Err(why) => why.number(),
-    }
+    calls::keep(image, answer, taken)
 }
 
 // Takes the monthly records of a file one after another, adds each accepted one to its year's slot, writes its output record, and leaves the image
@@ -52,10 +45,5 @@ pub fn run(
     ensures work_after { work.new ≡ work_over (run_months_here image.old totals.old records.now (length out.old)).accepted }
 {
     let end = yearly_totals::run_months(image::read(image), totals, records, out);
-    *accepted = end.accepted;
-    *work = end.work;
-    if end.accepted > 0 {
-        image::write(image, end.ledger);
-    }
-    refusal::number_or_zero(end.refusal)
+    calls::end_run(image, accepted, work, end)
 }

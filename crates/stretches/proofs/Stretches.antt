@@ -1,15 +1,17 @@
 -- The run of what is left of a file is the run of its first stretch and, where that refuses nothing, the run of the rest.
 use mathlib.Core.Path.{◌≡◌, refl, sym, ap, ◌∙◌}
 use mathlib.Core.Bool.{Bool, true, false, cond}
-use mathlib.Core.List.{List, [], ◌++◌}
+use mathlib.Core.List.{List, [], ◌++◌, append-nil}
 use Prim.Native.Nat.{ℕ, ◌+◌, ◌-◌, ◌*◌, ◌≤◌, ◌<◌}
 use native.Mathlib.Nat.{zero-add, add-zero, add-sub_cancel_left}
-use native.Mathlib.Decide.{ℕ_discrete}
+use native.Mathlib.Decide.{ℕ_discrete, dec_le}
 use native.Mathlib.Omega.{arith}
 use borrow.Author.Tests.{ltb-true, ltb-false, eq-eqb, ne_eqb}
 use lib.Dec.{eqb, ltb}
 use lib.ListN.{length, take, drop, length-drop, length-append, length-take, drop_of_length-le}
-use lib.Seq.{take_all, drop-drop}
+use lib.Seq.{take_all, take_at, drop_at, drop-drop}
+use Rattle.std.proofs.Common.{min}
+use Rattle.std.proofs.lemmas.List.{nil_from_length}
 use Rattle.record.specs.Fields.{record_bytes}
 use Rattle.carbon.specs.Carbon.{most_records}
 use Rattle.ledger.specs.Step.{fresh}
@@ -113,6 +115,32 @@ module _ (l : Ledger) (left : List ℕ) (few : l.n ≤ most_records) where
       ∙ run_refused l stretch (records_of (drop stretch_bytes left)) (record_bytes * length (records_of left)) (λ z. some (sym (ap (λ (r : Run). r.refusal) same_run) ∙ z))
       ∙ same_run
 
+-- The next part of what is left is the next stretch,
+module _ (left part rest : List ℕ) (cut : left ≡ part ++ rest) {n : ℕ} (a_stretch : n ≡ stretch_bytes) (long : length part ≡ min n (length left)) where
+  lengths : length left ≡ length part + length rest
+  lengths = ap length cut ∙ length-append part rest
+
+  size_of_part : length part ≡ min stretch_bytes (length left)
+  size_of_part = rw a_stretch at long
+
+  pub next_part : (part ≡ take stretch_bytes left) × (rest ≡ drop stretch_bytes left)
+  next_part = rw cut (by_size (dec_le stretch_bytes (length left)))
+    where
+      by_size : Dec (stretch_bytes ≤ length left) → (part ≡ take stretch_bytes (part ++ rest)) × (rest ≡ drop stretch_bytes (part ++ rest))
+      by_size (yes more) =
+          let all : length part ≡ stretch_bytes = omega (arith, size_of_part) in (sym (take_at part rest stretch_bytes all), sym (drop_at part rest stretch_bytes all))
+      by_size (no less) =
+          let short : length (part ++ rest) ≤ stretch_bytes = omega (arith, ap length cut) in
+          let none : rest ≡ [] = nil_from_length rest (omega (arith, lengths, size_of_part)) in
+          let whole : part ++ rest ≡ part = rw none (append-nil part) in
+          (sym whole ∙ sym (take_all stretch_bytes (part ++ rest) short), none ∙ sym (drop_of_length-le (part ++ rest) {i = stretch_bytes} short))
+
+-- and its run, with the room of a stretch, is the stretch's.
+pub part_run : (l : Ledger) (left part rest : List ℕ) → left ≡ part ++ rest → {n : ℕ} → n ≡ stretch_bytes → length part ≡ min n (length left)
+    → {room : ℕ} → room ≡ stretch_bytes → run_of l (records_of part) room ≡ stretch_run l left
+part_run l left part rest cut a_stretch long size =
+    λ i. run_of l (records_of ((next_part left part rest cut a_stretch long).0 i)) (size i)
+
 -- How a run from a fresh ledger ends, after so much decay work: n counts the accepted records.
 abbrev end_of : (work : ℕ) → Run → Outcome
 end_of work r = record { ledger = r.ledger; accepted = r.ledger.n; refusal = r.refusal; work = work + work_over r.accepted }
@@ -121,20 +149,18 @@ end_of work r = record { ledger = r.ledger; accepted = r.ledger.n; refusal = r.r
 abbrev rest_end : (refusal work : ℕ) → Ledger → List ℕ → Outcome
 rest_end refusal work l left = cond (eqb refusal 0) (end_of work (rest_run l left)) (record { ledger = l; accepted = l.n; refusal = refusal; work = work })
 
-pub record MidWhole (file : List ℕ) (l : Ledger) (at refusal work : ℕ) : Type 0 where
+pub record MidWhole (file : List ℕ) (l : Ledger) (left : List ℕ) (refusal work : ℕ) : Type 0 where
   pub few : l.n ≤ most_records
-  pub in_file : at ≤ length file
   pub worked : work ≤ 8 * l.n
-  pub so_far : outcome_of (whole_run file) ≡ rest_end refusal work l (drop at file)
+  pub so_far : outcome_of (whole_run file) ≡ rest_end refusal work l left
 
-pub whole_starts : (file : List ℕ) → MidWhole file fresh 0 0 0
+pub whole_starts : (file : List ℕ) → MidWhole file fresh file 0 0
 unfolding whole_run outcome_of fresh
 whole_starts file =
     let c = run_counts fresh (records_of file) (record_bytes * length (records_of file)) (omega arith) in
     let counted : length (whole_run file).accepted ≡ (whole_run file).ledger.n = omega (arith, c.n) in
     record {
       few = omega arith;
-      in_file = omega arith;
       worked = omega arith;
       so_far =
           λ i. record {
@@ -145,41 +171,50 @@ whole_starts file =
           };
     }
 
-module _ {file : List ℕ} {l : Ledger} {at work : ℕ} (h : MidWhole file l at 0 work) where
+module _ {file left : List ℕ} {l : Ledger} {work : ℕ} (h : MidWhole file l left 0 work) where
   abbrev done : Run
-  done = stretch_run l (drop at file)
+  done = stretch_run l left
 
-  next_end : end_of work (rest_run l (drop at file)) ≡ rest_end done.refusal (work + work_over done.accepted) done.ledger (drop stretch_bytes (drop at file))
+  next_end : end_of work (rest_run l left) ≡ rest_end done.refusal (work + work_over done.accepted) done.ledger (drop stretch_bytes left)
   next_end =
-      let rest = rest_run done.ledger (drop stretch_bytes (drop at file)) in
+      let rest = rest_run done.ledger (drop stretch_bytes left) in
       let added_up : work + work_over (done.accepted ++ rest.accepted) ≡ work + work_over done.accepted + work_over rest.accepted
       = omega (arith, work_join done.accepted rest.accepted) in
       elim (ℕ_discrete done.refusal 0) [
         | yes z ↦ simp (eq-eqb done.refusal 0 z)
-            (ap (end_of work) (goes_on l (drop at file) h.few z)
+            (ap (end_of work) (goes_on l left h.few z)
             ∙ λ i. record { ledger = rest.ledger; accepted = rest.ledger.n; refusal = rest.refusal; work = added_up i })
-        | no z ↦ simp (ne_eqb done.refusal 0 z) (ap (end_of work) (ends_here l (drop at file) h.few z))
+        | no z ↦ simp (ne_eqb done.refusal 0 z) (ap (end_of work) (ends_here l left h.few z))
       ]
 
-  pub next_worked : {o : Outcome} → o ≡ outcome_of (stretch_run l (drop at file)) → (work + o.work ≤ 8 * o.ledger.n) × (o.ledger.n ≤ most_records)
-  unfolding outcome_of
-  next_worked e =
-      let c = counts l (drop at file) h.few in
-      rw e (omega (arith, h.worked, over_most done.accepted, c.n), c.few)
+  -- the run of the next part is the stretch's
+  module _ (part rest : List ℕ) (cut : left ≡ part ++ rest) {n : ℕ} (a_stretch : n ≡ stretch_bytes) (long : length part ≡ min n (length left))
+      {o : Outcome} {room : ℕ} (size : room ≡ stretch_bytes) (answered : o ≡ outcome_of (run_of l (records_of part) room)) where
+    says : o ≡ outcome_of done
+    says = answered ∙ ap outcome_of (part_run l left part rest cut a_stretch long size)
 
-  pub whole_goes_on : {o : Outcome} → o ≡ outcome_of (stretch_run l (drop at file))
-      → (at' : ℕ) → at' ≤ length file → drop at' file ≡ drop stretch_bytes (drop at file) → MidWhole file o.ledger at' o.refusal (work + o.work)
-  unfolding outcome_of
-  whole_goes_on e at' inside same =
-      record { few = (next_worked e).1; in_file = inside; worked = (next_worked e).0; so_far = rw e (h.so_far ∙ next_end ∙ rw same) }
+    pub next_worked : (work + o.work ≤ 8 * o.ledger.n) × (o.ledger.n ≤ most_records)
+    unfolding outcome_of
+    next_worked =
+        let c = counts l left h.few in
+        rw says (omega (arith, h.worked, over_most done.accepted, c.n), c.few)
 
-pub whole_ends : {file : List ℕ} {l : Ledger} {at refusal work : ℕ} → MidWhole file l at refusal work → (refusal ≡ 0 → length file ≤ at)
+    pub whole_goes_on : MidWhole file o.ledger rest o.refusal (work + o.work)
+    unfolding outcome_of
+    whole_goes_on =
+        record {
+          few = next_worked.1;
+          worked = next_worked.0;
+          so_far = rw (says, (next_part left part rest cut a_stretch long).1) (h.so_far ∙ next_end);
+        }
+
+pub whole_ends : {file left : List ℕ} {l : Ledger} {refusal work : ℕ} → MidWhole file l left refusal work → (refusal ≡ 0 → length left ≡ 0)
     → record { ledger = l; accepted = l.n; refusal = refusal; work = work } ≡ outcome_of (whole_run file)
 unfolding work_over
-whole_ends {file} {l} {at} {refusal} {work} h last = sym (h.so_far ∙ by_refusal (ℕ_discrete refusal 0))
+whole_ends {file} {left} {l} {refusal} {work} h last = sym (h.so_far ∙ by_refusal (ℕ_discrete refusal 0))
   where
-    by_refusal : Dec (refusal ≡ 0) → rest_end refusal work l (drop at file) ≡ record { ledger = l; accepted = l.n; refusal = refusal; work = work }
+    by_refusal : Dec (refusal ≡ 0) → rest_end refusal work l left ≡ record { ledger = l; accepted = l.n; refusal = refusal; work = work }
     by_refusal (yes z) =
-        let gone : records_of (drop at file) ≡ [] = no_records (drop at file) (simp length-drop (omega (arith, last z))) in
+        let gone : records_of left ≡ [] = no_records left (last z) in
         simp (eq-eqb refusal 0 z) (rw (gone, run_ends, z, add-zero))
     by_refusal (no z) = simp (ne_eqb refusal 0 z)

@@ -42,10 +42,9 @@ pub fn whole_run(file: &[u8]) -> RunEnd
 {
     let mut out = [0u8; STRETCH];
     let mut ledger = Ledger::fresh();
-    let mut at: usize = 0;
     let mut work: u64 = 0;
-    while at < file.len() {
-        let ran = run_stretch(ledger, file, at, &mut out);
+    for part in file.chunks(STRETCH) {
+        let ran = run::run(ledger, part, &mut out);
         let next = ran.ledger;
         ledger = next;
         work += ran.work;
@@ -57,7 +56,6 @@ pub fn whole_run(file: &[u8]) -> RunEnd
                 work,
             };
         }
-        at = stretch_end(file, at);
     }
     RunEnd {
         ledger,

@@ -2,14 +2,11 @@
 use mathlib.Core.Path.{◌≡◌, sym, ap, ◌∙◌}
 use native.Mathlib.Omega.{arith}
 use lib.ListN.{length}
-use Rattle.std.proofs.Common.{Ok, Err}
-use Rattle.refusal.proofs.Numbers.{number_some}
 use Rattle.ledger.specs.Answer.{Answer}
-use Rattle.ledger.specs.Take.{refused_of}
 use Rattle.ledger.specs.Numbers.{answer_numbers}
 use Rattle.image.specs.Image.{ledger_of}
-use Rattle.calls.specs.Calls.{answered, take_here, take_image, take_answer}
-use Rattle.calls.proofs.Takes.{room_most, part_length, step_is, output_left, image_of_lem, image_next, image_stays}
+use Rattle.calls.specs.Calls.{answered, image_over, take_here, take_image, take_answer}
+use Rattle.calls.proofs.Takes.{room_most, part_length, step_is, output_left, image_of_lem, image_kept}
 use Rattle.calls.proofs.take.Goals as goal
 
 pub slice_bounds-take_one-end : goal.slice_bounds-take_one-end
@@ -18,34 +15,22 @@ slice_bounds-take_one-end c = omega (arith, c.room-room.ensures, room_most (leng
 pub slice_bounds-take_one-end-2 : goal.slice_bounds-take_one-end-2
 slice_bounds-take_one-end-2 c = sym (part_length c.args.out.now c.args.answer.now c.room-room.result c.room-room.ensures)
 
-pub returns-in-Err : goal.returns-in-Err
-unfolding take_image take_answer refused_of
-returns-in-Err c =
-    let a = c.args in
-    let here = take_here a.image.now a.«record».now a.out.now a.answer.now in
-    let done : answer_numbers (ledger_of a.image.now) (Err c.in-Err.why) ≡ here =
-    (rw c.read.ensures at c.in-Err.ensures.value) ∙ step_is a.image.now a.«record».now a.out.now a.answer.now c.room-room.result c.room-room.ensures in
-    let number = ap (λ (x : Answer). x.refusal) done in
-    record {
-      value = c.number.ensures ∙ number;
-      image_after = sym (image_stays here a.image.now (λ z. number_some c.in-Err.why (number ∙ z)));
-      out_after = output_left a.image.now a.«record».now a.out.now a.answer.now c.room-room.result c.room-room.ensures (rw c.read.ensures at c.in-Err.ensures.out_after);
-      answer_after = (rw c.in-Err.is at c.write_answer.ensures (ledger_of a.image.now)) ∙ ap (λ (x : Answer). answered x a.answer.now) done;
-    }
-
-pub returns-in-Ok : goal.returns-in-Ok
+pub returns : goal.returns
 unfolding take_image take_answer
-returns-in-Ok c =
+returns c =
     let a = c.args in
     let here = take_here a.image.now a.«record».now a.out.now a.answer.now in
-    let done : answer_numbers (ledger_of a.image.now) (Ok c.in-Ok.taken) ≡ here =
-    (rw c.read.ensures at c.in-Ok.ensures.value) ∙ step_is a.image.now a.«record».now a.out.now a.answer.now c.room-room.result c.room-room.ensures in
-    let none : here.refusal ≡ 0 = sym (ap (λ (x : Answer). x.refusal) done) in
+    let l = ledger_of a.image.now in
+    let step = c.take_one-taken.ensures in
+    let done : answer_numbers l c.take_one-taken.result ≡ here =
+    (rw c.read.ensures at step.value) ∙ step_is a.image.now a.«record».now a.out.now a.answer.now c.room-room.result c.room-room.ensures in
+    let e = c.keep.ensures in
     record {
-      value = sym none;
+      value = e.value l ∙ ap (λ (x : Answer). x.refusal) done;
       image_after =
-          c.write.ensures
-          ∙ rw (ap (λ (x : Answer). x.ledger) done) (image_next here a.image.now (image_of_lem a.image.now a.«record».now a.out.now a.answer.now c.room-room.result c.room-room.ensures none) none);
-      out_after = output_left a.image.now a.«record».now a.out.now a.answer.now c.room-room.result c.room-room.ensures (rw c.read.ensures at c.in-Ok.ensures.out_after);
-      answer_after = (rw c.in-Ok.is at c.write_answer.ensures (ledger_of a.image.now)) ∙ ap (λ (x : Answer). answered x a.answer.now) done;
+          e.image_after l
+          ∙ ap (λ (x : Answer). image_over x a.image.now) done
+          ∙ image_kept here a.image.now (image_of_lem a.image.now a.«record».now a.out.now a.answer.now c.room-room.result c.room-room.ensures);
+      out_after = output_left a.image.now a.«record».now a.out.now a.answer.now c.room-room.result c.room-room.ensures (rw c.read.ensures at step.out_after);
+      answer_after = e.answer_after l ∙ ap (λ (x : Answer). answered x a.answer.now) done;
     }

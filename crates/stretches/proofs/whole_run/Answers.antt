@@ -1,36 +1,46 @@
 -- `MidWhole` holds at the head of the loop; each stretch and the end is a law of it.
-use mathlib.Core.Path.{refl, ap, ◌∙◌}
+use Rattle.std.proofs.Common.{refl, ap, ◌∙◌}
 use native.Mathlib.Omega.{arith}
-use lib.ListN.{length, drop}
+use lib.ListN.{length}
+use Rattle.std.specs.Slice.Iter.{chunks_rest}
+use Rattle.run.specs.History.{out_of}
 use Rattle.refusal.proofs.Numbers.{number_some}
-use Rattle.stretches.proofs.Stretches.{stretch_is, whole_starts, next_worked, whole_goes_on, whole_ends, output_size}
+use Rattle.stretches.proofs.Stretches.{whole_starts, part_run, next_worked, whole_goes_on, whole_ends, output_size}
 use Rattle.stretches.proofs.whole_run.Goals as goal
 
-pub loop-at-init : goal.loop-at-init
-loop-at-init c = (rw c.fresh-ledger.ensures (whole_starts c.args.file.now), refl)
+pub loop-part-init : goal.loop-part-init
+loop-part-init c =
+    let its = c.into_iter-part-iterator.ensures.into_iter_gives in
+    let chunks = c.chunks-part-items.ensures in (rw (its, chunks.rest, c.fresh-ledger.ensures) (whole_starts c.args.file.now), rw its chunks.size, refl)
 
 pub overflow_add-work : goal.overflow_add-work
 overflow_add-work c =
-    let work = next_worked c.loop-at.invariant.0 c.run_stretch-ran.ensures.value in omega (arith, work.0, work.1)
+    let h = c.loop-part.invariant in
+    let next = c.in-Some.ensures.steps.1 in
+    let work = next_worked h.0 c.in-Some.part.now (chunks_rest c.next.new.self) next.0 h.1 next.1 h.2 c.run-ran.ensures.value in omega (arith, work.0, work.1)
 
-pub returns-in-Some : goal.returns-in-Some
-returns-in-Some c =
-    let loop = c.loop-at in
-    let end = stretch_is c.args.file.now loop.at loop.invariant.0.in_file refl in
-    rw c.in-Some.is at (whole_ends (whole_goes_on loop.invariant.0 c.run_stretch-ran.ensures.value _ end.in_file end.rest) (λ z. absurd (number_some c.in-Some.why (rw c.in-Some.is at z))))
+pub returns-in-Some-refusal : goal.returns-in-Some-refusal
+returns-in-Some-refusal c =
+    let h = c.loop-part.invariant in
+    let next = c.in-Some.ensures.steps.1 in
+    let some = c.in-Some-refusal in
+    let mid = whole_goes_on h.0 c.in-Some.part.now (chunks_rest c.next.new.self) next.0 h.1 next.1 h.2 c.run-ran.ensures.value in
+    rw some.is at (whole_ends mid (λ z. absurd (number_some some.why (rw some.is at z))))
 
-pub loop-at-smaller : goal.loop-at-smaller
-loop-at-smaller c =
-    let loop = c.loop-at in
-    let end = stretch_is c.args.file.now loop.at loop.invariant.0.in_file c.stretch_end-at.ensures in omega (arith, end.far c.loop-at-test.true, end.in_file)
-
-pub loop-at-preserved : goal.loop-at-preserved
-loop-at-preserved c =
-    let loop = c.loop-at in
-    let end = stretch_is c.args.file.now loop.at loop.invariant.0.in_file c.stretch_end-at.ensures in (
-      rw c.in_default.is at (whole_goes_on loop.invariant.0 c.run_stretch-ran.ensures.value c.stretch_end-at.result end.in_file end.rest),
-      ap length c.run_stretch-ran.ensures.out_after ∙ output_size loop.ledger (drop loop.at c.args.file.now) loop.invariant.0.few loop.out loop.invariant.1,
+pub loop-part-preserved : goal.loop-part-preserved
+loop-part-preserved c =
+    let loop = c.loop-part in
+    let h = loop.invariant in
+    let steps = c.in-Some.ensures.steps in
+    let next = steps.1 in
+    let part = c.in-Some.part.now in
+    let rest = chunks_rest c.next.new.self in
+    let ran = c.run-ran.ensures in
+    let left = chunks_rest loop.part-iterator in (
+      rw c.in_default.is at (whole_goes_on h.0 part rest next.0 h.1 next.1 h.2 ran.value),
+      steps.0 ∙ h.1,
+      ap length (ran.out_after ∙ ap (λ r. out_of r loop.out) (part_run loop.ledger left part rest next.0 h.1 next.1 h.2)) ∙ output_size loop.ledger left h.0.few loop.out h.2,
     )
 
 pub returns : goal.returns
-returns c = whole_ends c.loop-at.invariant.0 (λ z. omega (arith, c.loop-at-test.false))
+returns c = whole_ends c.loop-part.invariant.0 (λ z. c.in-None.ensures.steps.1.0)
