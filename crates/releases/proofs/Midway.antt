@@ -65,7 +65,7 @@ module _ (file : List ℕ) (i : ℕ) (bytes rest : List ℕ) {size : ℕ} {left 
       let more : record_bytes * i + length bytes ≡ record_bytes * (i + 1) = omega (arith, long, here.0) in (
         same ∙ here.0,
         sym (drop-append_seam bytes rest) ∙ ap (drop (length bytes)) (sym parts) ∙ drop-drop (length bytes) (record_bytes * i) file
-        ∙ ap (λ (k : ℕ). drop k file) more,
+            ∙ ap (λ (k : ℕ). drop k file) more,
         chunk_within,
       )
 

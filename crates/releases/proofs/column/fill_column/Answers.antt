@@ -1,6 +1,6 @@
 -- Before record i the first i releases are there, and `stock` is what the records before it leave: `MidColumn`. Each record, and the end of the
 -- file, is a law of it.
-use mathlib.Core.Path.{◌≡◌, ap, ◌∙◌}
+use mathlib.Core.Path.{ap, ◌∙◌}
 use mathlib.Core.List.{List}
 use Prim.Native.Nat.{ℕ, ◌*◌, ◌<◌}
 use native.Mathlib.Omega.{arith}
@@ -48,8 +48,8 @@ loop-i-preserved g c =
     rw (steps.2, steps.1) (
       chunks_on file i _ _ loop.invariant.0 steps.0.1.0 steps.0.1.1 steps.0.0,
       column_on c.requires.places.0 loop.invariant.1 more (omega (arith, within, c.requires.file_value.1, c.requires.places.1))
-      (c.left-left.ensures.0 ∙ rw (deposit, ← entry_is c.requires.places.0 loop.invariant.1 more))
-      (rw deposit),
+          (c.left-left.ensures.0 ∙ rw (deposit, ← entry_is c.requires.places.0 loop.invariant.1 more))
+          (rw deposit),
     )
 
 pub returns-clause-value : goal.returns-clause-value

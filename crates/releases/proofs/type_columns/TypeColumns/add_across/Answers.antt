@@ -1,5 +1,5 @@
 -- Before record i the first i figures are there: `MidFigures`. Each record, and the end of the file, is a law of it.
-use mathlib.Core.Path.{◌≡◌, refl, ap, ◌∙◌}
+use mathlib.Core.Path.{refl, ap, ◌∙◌}
 use Prim.Native.Nat.{◌*◌, ◌<◌}
 use native.Mathlib.Omega.{arith}
 use lib.ListN.{length}
@@ -14,7 +14,7 @@ pub loop-i-init : goal.loop-i-init
 loop-i-init c =
     let bytes = c.chunks_exact.ensures in
     rw (c.into_iter-i-iterator.ensures.into_iter_gives, c.enumerate-i-items.ensures.source, c.enumerate-i-items.ensures.count)
-        ((bytes.size, bytes.rest, omega arith), figures_start c.args.file.now c.args.figures.now _ c.requires.file_value.0)
+    ((bytes.size, bytes.rest, omega arith), figures_start c.args.file.now c.args.figures.now _ c.requires.file_value.0)
 
 pub across-requires : goal.across-requires
 across-requires c =
@@ -47,7 +47,7 @@ loop-i-preserved c =
     rw (steps.2, steps.1) (
       chunks_on file i _ _ loop.invariant.0 steps.0.1.0 steps.0.1.1 steps.0.0,
       figures_on loop.invariant.1 more (omega (arith, within, c.requires.file_value.1, c.requires.n_in_bounds))
-      (c.figure.ensures ∙ rw (factors, c.across.ensures, steps.1)),
+          (c.figure.ensures ∙ rw (factors, c.across.ensures, steps.1)),
     )
 
 pub returns : goal.returns
