@@ -1,10 +1,11 @@
 -- Where a loop over an accepted file is before a record: the ledger that the records before leave accepts the rest.
-use mathlib.Core.Path.{◌≡◌, ◌∙◌}
-use mathlib.Core.List.{List, ◌∷◌}
-use Prim.Native.Nat.{ℕ, ◌+◌, ◌-◌, ◌*◌, ◌<◌}
+use mathlib.Core.Path.{◌≡◌, sym, ap, ◌∙◌}
+use mathlib.Core.List.{List, ◌∷◌, ◌++◌}
+use Prim.Native.Nat.{ℕ, ◌+◌, ◌-◌, ◌*◌, ◌≤◌, ◌<◌}
 use native.Mathlib.Omega.{arith}
-use lib.ListN.{length, take, drop, length-drop}
-use lib.Seq.{drop-drop}
+use lib.ListN.{length, take, drop, length-append, length-drop}
+use lib.Seq.{take_at, drop-drop}
+use Rattle.std.proofs.Math.Seq.{drop-append_seam}
 use Rattle.record.specs.Fields.{record_bytes}
 use Rattle.ledger.specs.Step.{fresh}
 use Rattle.ledger.specs.Refusal.{refusal_of}
@@ -43,3 +44,31 @@ module _ {file : List ℕ} {i : ℕ} (h : Midway file i) (more : record_bytes * 
 
   unfoldable pub midway_on : Midway file (i + 1)
   midway_on = record { ledger = (accepted_of h.ledger next_record).ledger; room = h.room - record_bytes; accepted = next_and_rest.1 }
+
+-- Where the chunks of a file are before record i: of those left, each has as many bytes as a record.
+abbrev pub Chunks : (file : List ℕ) (i size : ℕ) (left : List ℕ) → Type 0
+Chunks file i size left = (size ≡ record_bytes) × (left ≡ drop (record_bytes * i) file) × (record_bytes * i ≤ length file)
+
+-- A chunk is the next record, and the rest comes after it.
+module _ (file : List ℕ) (i : ℕ) (bytes rest : List ℕ) {size : ℕ} {left : List ℕ} (here : Chunks file i size left) (is : left ≡ bytes ++ rest) (long : length bytes ≡ size) where
+  parts : drop (record_bytes * i) file ≡ bytes ++ rest
+  parts = sym here.1 ∙ is
+
+  pub chunk_is : bytes ≡ take record_bytes (drop (record_bytes * i) file)
+  chunk_is = sym (ap (take record_bytes) parts ∙ take_at bytes rest record_bytes (long ∙ here.0))
+
+  pub chunk_within : record_bytes * (i + 1) ≤ length file
+  chunk_within = omega (arith, length-drop (record_bytes * i) file, ap length parts, length-append bytes rest, long, here.0)
+
+  pub chunks_on : {size' : ℕ} → size' ≡ size → Chunks file (i + 1) size' rest
+  chunks_on same =
+      let more : record_bytes * i + length bytes ≡ record_bytes * (i + 1) = omega (arith, long, here.0) in (
+        same ∙ here.0,
+        sym (drop-append_seam bytes rest) ∙ ap (drop (length bytes)) (sym parts) ∙ drop-drop (length bytes) (record_bytes * i) file
+            ∙ ap (λ (k : ℕ). drop k file) more,
+        chunk_within,
+      )
+
+-- Where no chunk is left, the file of n records is at its end.
+pub chunks_end : (file : List ℕ) (n i : ℕ) {size : ℕ} {left : List ℕ} → Chunks file i size left → record_bytes * n ≡ length file → length left < size → i ≡ n
+chunks_end file n i here whole few = omega (arith, here.0, here.2, ap length here.1, length-drop (record_bytes * i) file, whole, few)

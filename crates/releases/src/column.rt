@@ -16,10 +16,9 @@ pub fn fill_column<const T: u8>(column: &mut [u64], file: &[u8], n: usize, entry
     ensures column_after { column.new ≡ releases_alone T 0 (records_of file.now) ++ drop n column.old }
 {
     let mut stock: u64 = 0;
-    // by place, since a proof knows nothing of the elements after an adapter of `iter_mut`
-    for i in 0..n {
-        let at = record::BYTES * i;
-        let held = stock + record::deposit(&file[at..at + record::BYTES], T);
+    // the column by place, since a proof knows nothing of the elements after an adapter of `iter_mut`
+    for (i, bytes) in file.chunks_exact(record::BYTES).enumerate() {
+        let held = stock + record::deposit(bytes, T);
         let left = carbon::left(held, entry);
         column[i] = held - left;
         stock = left;

@@ -89,10 +89,8 @@ impl TypeColumns<'_> {
         requires n_in_bounds { n ≤ length figures.old }
         ensures { figures.new ≡ figures_across (contents self.now) 0 (records_of file.now) ++ drop n figures.old }
     {
-        for i in 0..n {
-            let at = record::BYTES * i;
-            let factors = Factors::of(&file[at..at + record::BYTES]);
-            figures[i] = figure::figure(factors, self.across(i));
+        for (i, bytes) in file.chunks_exact(record::BYTES).enumerate() {
+            figures[i] = figure::figure(Factors::of(bytes), self.across(i));
         }
     }
 }
