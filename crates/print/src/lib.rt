@@ -9,6 +9,9 @@ mod lent;
 
 pub use lent::{buffer, room_of};
 
+// The hex digits by their values.
+const DIGITS: [u8; 16] = *b"0123456789abcdef";
+
 // The bytes of a page, on which the hex digits of bytes are gathered.
 const PAGE: usize = 4096;
 
@@ -58,9 +61,11 @@ pub fn bytes(rt: &impl Print, of: &[u8], follows: u8)
     }
     let mut page = [0u8; PAGE];
     for part in of.chunks(PAGE / 2) {
-        let digits = &mut page[..2 * part.len()];
-        let _ = hex::encode_to_slice(part, digits);
-        text(rt, digits);
+        for (place, byte) in part.iter().enumerate() {
+            page[2 * place] = DIGITS[(*byte / 16) as usize];
+            page[2 * place + 1] = DIGITS[(*byte % 16) as usize];
+        }
+        text(rt, &page[..2 * part.len()]);
     }
     end(rt, follows);
 }
