@@ -1,4 +1,5 @@
 -- The public functions of `numbers`.
+use native.Mathlib.Omega.{arith}
 use Rattle.std.proofs.Common.{ℕ, Fits, w64}
 use Rattle.numbers.proofs.mul_div.Reads as mul-div
 use Rattle.numbers.proofs.read.Reads as read
@@ -18,6 +19,40 @@ read_one width fits = by_equation (λ κs a r s p. p.0)
 
 pub write_one : (width : ℕ) (fits : Fits w64 width) → Settled (write.Learnt width fits) (λ κs r s. s.0.now)
 write_one width fits = by_equation (λ κs a r s p. p)
+
+-- At the widths that the crates above use, and at one byte.
+pub one_wide : Fits w64 1
+one_wide = omega arith
+
+pub two_wide : Fits w64 2
+two_wide = omega arith
+
+pub four_wide : Fits w64 4
+four_wide = omega arith
+
+pub eight_wide : Fits w64 8
+eight_wide = omega arith
+
+pub read_u16_one : OneAnswer (read.Learnt 2 two_wide)
+read_u16_one = read_one 2 two_wide
+
+pub read_u32_one : OneAnswer (read.Learnt 4 four_wide)
+read_u32_one = read_one 4 four_wide
+
+pub read_u64_one : OneAnswer (read.Learnt 8 eight_wide)
+read_u64_one = read_one 8 eight_wide
+
+pub write_u8_one : Settled (write.Learnt 1 one_wide) (λ κs r s. s.0.now)
+write_u8_one = write_one 1 one_wide
+
+pub write_u16_one : Settled (write.Learnt 2 two_wide) (λ κs r s. s.0.now)
+write_u16_one = write_one 2 two_wide
+
+pub write_u32_one : Settled (write.Learnt 4 four_wide) (λ κs r s. s.0.now)
+write_u32_one = write_one 4 four_wide
+
+pub write_u64_one : Settled (write.Learnt 8 eight_wide) (λ κs r s. s.0.now)
+write_u64_one = write_one 8 eight_wide
 
 pub read_eight_one : OneAnswer read-eight.Learnt
 read_eight_one = by_equation (λ κs a r s p. p)

@@ -1,8 +1,15 @@
--- The public functions of `releases`: the stocks with the eight columns, and the figures.
+-- The public functions of `releases`: the contents of the columns in their order, the stocks with the eight columns, and the figures.
+use mathlib.Core.List.{List, map}
+use Prim.Native.Nat.{ℕ}
+use denote.Ref.{Bor}
 use Rattle.releases.specs.Columns.{contents}
+use Rattle.releases.proofs.type_columns.TypeColumns.all.Reads as all
 use Rattle.releases.proofs.type_columns.TypeColumns.fill.Reads as fill
 use Rattle.releases.proofs.type_columns.TypeColumns.add_across.Reads as add-across
 use Rattle.promise_answers.proofs.OneAnswer.{Settled, by_equation, ◌&◌, both}
+
+pub all_one : Settled all.Learnt (λ κs r s. map (λ (column : Bor (List ℕ)). column.now) r)
+all_one = by_equation (λ κs a r s p. p)
 
 pub fill_one : Settled fill.Learnt (λ κs r s. r & contents s.0.now)
 fill_one = by_equation (λ κs a r s p. both p.0 p.1.1)
