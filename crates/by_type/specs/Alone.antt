@@ -29,3 +29,8 @@ HasPlaces n t column = n ≤ length column
 abbrev pub filled_from : (file : List ℕ) (n t : ℕ) → List (List ℕ) → List (List ℕ)
 filled_from file n t [] = []
 filled_from file n t (column ∷ rest) = (releases_alone t 0 (records_of file) ++ drop n column) ∷ filled_from file n (t + 1) rest
+
+-- The stocks of four types after the last record.
+abbrev pub four_stocks : (file : List ℕ) (t : ℕ) → List ℕ
+four_stocks file t =
+    stock_alone t 0 (records_of file) ∷ stock_alone (t + 1) 0 (records_of file) ∷ stock_alone (t + 2) 0 (records_of file) ∷ stock_alone (t + 3) 0 (records_of file) ∷ []

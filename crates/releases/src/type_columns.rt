@@ -6,11 +6,11 @@ ghost use Rattle.record.specs.Fields.{record_bytes, kind_of, climate_of};
 ghost use Rattle.carbon.specs.Carbon.{entry_at};
 ghost use Rattle.run.specs.History.{records_of, whole_run};
 ghost use Rattle.by_type.specs.Alone.{stock_alone, HasPlaces, filled_from};
-ghost use Rattle.by_type.specs.Across.{HoldsReleases, HoldsAt, across_at, figures_across};
+ghost use Rattle.by_type.specs.Across.{HoldsReleases, figures_across};
 ghost use Rattle.releases.specs.Columns.{contents, references};
 
+use crate::across::add_across;
 use crate::column::fill_column;
-use record::Factors;
 
 // The columns of the eight types, which are lent together.
 #[derive(Drop)]
@@ -65,23 +65,6 @@ impl TypeColumns<'_> {
         ]
     }
 
-    // Answers the sum of the eight columns at a place, in mg.
-    #[tactic(auto, unfolding(by_type::specs::Across::across_at))]
-    fn across(&self, i: usize) -> u64
-        requires { Each (HoldsAt i) 0 (contents self.now) }
-        ensures { result ≡ across_at (contents self.now) i }
-    {
-        // written out, since the proof of an iterator's sum over `all` didn't close
-        self.wood[i]
-            + self.paper[i]
-            + self.food[i]
-            + self.textiles[i]
-            + self.garden[i]
-            + self.inert[i]
-            + self.domestic[i]
-            + self.industrial[i]
-    }
-
     // Fills the column of the figures in grams CO2e: the chain of each record's factors, from the releases added across.
     pub fn add_across(&self, file: &[u8], n: usize, figures: &mut [u64])
         requires file_value { ((whole_run file.now).refusal ≡ 0) × (record_bytes * n ≡ length file.now) }
@@ -89,8 +72,18 @@ impl TypeColumns<'_> {
         requires n_in_bounds { n ≤ length figures.old }
         ensures { figures.new ≡ figures_across (contents self.now) 0 (records_of file.now) ++ drop n figures.old }
     {
-        for (i, bytes) in file.chunks_exact(record::BYTES).enumerate() {
-            figures[i] = figure::figure(Factors::of(bytes), self.across(i));
-        }
+        add_across(
+            file,
+            n,
+            &self.wood,
+            &self.paper,
+            &self.food,
+            &self.textiles,
+            &self.garden,
+            &self.inert,
+            &self.domestic,
+            &self.industrial,
+            figures,
+        );
     }
 }
