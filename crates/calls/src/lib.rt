@@ -64,14 +64,11 @@ pub fn keep(image: &mut [u8], answer: &mut [u8], taken: Result<Taken, Refusal>) 
     ensures image_after { (l : Ledger) → image.new ≡ image_over (answer_numbers l taken) image.old }
     ensures answer_after { (l : Ledger) → answer.new ≡ answered (answer_numbers l taken) answer.old }
 {
-    write_answer(answer, taken);
-    match taken {
-        Ok(taken) => {
-            image::write(image, taken.ledger);
-            0
-        }
-        Err(why) => why.number(),
+    if let Ok(kept) = taken {
+        image::write(image, kept.ledger);
     }
+    write_answer(answer, taken);
+    refusal::number_or_zero(taken.err())
 }
 
 // Keeps the end of a run, with yearly totals or without: writes how many records were accepted, their decay work, and the image of the

@@ -87,3 +87,16 @@ pub fn with_masses(early: Option<Refusal>, bytes: &[u8]) -> Option<Refusal>
     }
     None
 }
+
+// Answers that refusal by its number, 0 if none: `early`, which may be any number, and where it is 0, 9 for a mass over the limit.
+pub fn number_with_masses(early: u8, bytes: &[u8]) -> u8
+    ensures { result ≡ cond (eqb early 0) (cond (every_of (light bytes.now) 8) 0 9) early }
+{
+    if early != 0 {
+        return early;
+    }
+    if !are_light(bytes) {
+        return Refusal::MassOverLimit.number();
+    }
+    0
+}
