@@ -5,7 +5,7 @@ use Prim.Native.Nat.{ℕ, zero, suc, ◌+◌, ◌-◌, ◌*◌, ◌/◌, ◌%◌
 use native.Mathlib.Nat.{pow-suc}
 use native.Mathlib.Decide.{dec_le}
 use native.Mathlib.Omega.{arith}
-use lib.ListN.{length, length-append}
+use lib.ListN.{length, get_or, length-append, get_or-append}
 use borrow.Author.Tests.{lt-ltb, le-ltb}
 use Rattle.std.specs.Fmt.{decimal}
 use Rattle.std.proofs.lemmas.Fmt.{decimal_by_steps}
@@ -62,6 +62,16 @@ few_digits = by_digits Few (λ n h k b. rw (one_digit n h) (omega arith)) more
     more : (n : ℕ) → 10 ≤ n → Few (n / 10) → Few n
     more n h rest zero b = absurd (omega arith)
     more n h rest (suc k) b = let small : n < 10 ^ suc k * 10 = rw pow-suc at b in omega (arith, one_more n h, rest k (omega arith))
+
+-- There is a first digit, and it is 0 for the number 0 alone.
+pub first_digit : (n : ℕ) → (0 < length (decimal_of n)) × (0 < n → 48 < get_or (decimal_of n) 0 0)
+first_digit =
+    by_digits (λ n. (0 < length (decimal_of n)) × (0 < n → 48 < get_or (decimal_of n) 0 0))
+    (λ n h. rw (one_digit n h) (omega arith, λ p. omega arith))
+    λ n h rest. (
+      omega (arith, one_more n h),
+      λ p. rw (more_digits n h, get_or-append (decimal_of (n / 10)) ((48 + n % 10) ∷ []) 0 0 rest.0) (rest.1 (omega arith)),
+    )
 
 read_on_lem : (xs ys : List ℕ) (n : ℕ) → read_on n (xs ++ ys) ≡ read_on (read_on n xs) ys
 read_on_lem [] ys n = refl
