@@ -8,7 +8,7 @@ ghost use Rattle.waste.specs.Waste.{mass_limit};
 ghost use Rattle.samples.specs.Samples.{sample_bytes, whole_sample, most_samples, right_number, fraction_at, adds_up, number_of, refusal_number, numbers_of, sorted_of};
 
 use std::error::Error;
-use std::{array, fmt};
+use std::fmt;
 use waste::Kind;
 
 // The bytes of a sample.
@@ -83,36 +83,37 @@ fn is_right_number(kind: u8, bytes: usize) -> bool
     is_enough(kind, (bytes / BYTES) as u64) & (bytes % BYTES == 0)
 }
 
-// Answers the fractions of a sample.
+// Answers the fraction of a sample at a type's place.
 #[tactic(auto, unfolding(crate::specs::Samples::fraction_at))]
-fn fractions_of(sample: &[u8]) -> [u16; 8]
-    requires { length sample.now ≡ sample_bytes }
-    ensures { result ≡ eight (fraction_at sample.now 0) }
+fn fraction_of(sample: &[u8], t: usize) -> u16
+    requires { 2 * t + 2 ≤ length sample.now }
+    ensures { result ≡ fraction_at sample.now 0 t }
 {
-    array::from_fn(|t| numbers::read::<2>(sample, 2 * t) as u16)
+    u16::from_le_bytes([sample[2 * t], sample[2 * t + 1]])
 }
 
-// Adds fractions to those before them, type by type.
-fn add(before: [u32; 8], fractions: [u16; 8]) -> [u32; 8]
-    requires { (t : _) → t < 8 → get_or before t 0 ≤ whole_sample * most_samples }
-    ensures { result ≡ eight (λ t. get_or before t 0 + get_or fractions t 0) }
-{
-    array::from_fn(|t| before[t] + fractions[t] as u32)
-}
-
-// Adds the fractions of a sample to those of the samples before it, or answers none where they do not add up.
-#[tactic(auto, unfolding(crate::specs::Samples::adds_up))]
-fn add_sample(before: [u32; 8], sample: &[u8]) -> Option<[u32; 8]>
+// Adds the fractions of a sample to those of the samples before it, and answers beside that what they add up to themselves.
+fn add_sample(before: [u32; 8], sample: &[u8]) -> ([u32; 8], u32)
     requires sample_len { length sample.now ≡ sample_bytes }
     requires before_small { (t : _) → t < 8 → get_or before t 0 ≤ whole_sample * most_samples }
-    ensures { result ≡ cond (adds_up sample.now 0) (Some (eight (λ t. get_or before t 0 + fraction_at sample.now 0 t))) None }
+    ensures added { result.0 ≡ eight (λ t. get_or before t 0 + fraction_at sample.now 0 t) }
+    ensures sum { result.1 ≡ sum_of (fraction_at sample.now 0) 8 }
 {
-    let fractions = fractions_of(sample);
-    let sum: u32 = fractions.iter().map(|fraction| *fraction as u32).sum();
-    if sum != WHOLE {
-        return None;
+    let mut added = [0; 8];
+    let mut sum = 0;
+    for (t, all) in added.iter_mut().enumerate() {
+        let fraction = fraction_of(sample, t) as u32;
+        *all = before[t] + fraction;
+        sum += fraction;
     }
-    Some(add(before, fractions))
+    (added, sum)
+}
+
+// Tells whether fractions that add up to so much are a whole sample.
+fn is_whole(sum: u32) -> bool
+    ensures { result ≡ eqb sum whole_sample }
+{
+    sum == WHOLE
 }
 
 // Adds the fractions of some samples, or answers none where a sample does not add up.
@@ -121,10 +122,15 @@ fn add_samples(samples: &[u8]) -> Option<[u32; 8]>
     ensures { result ≡ cond (every_of (adds_up samples.now) (number_of samples.now)) (Some (eight (λ t. sum_of (λ n. fraction_at samples.now n t) (number_of samples.now)))) None }
 {
     let mut added = [0; 8];
+    let mut sum = WHOLE;
     for sample in samples.chunks_exact(BYTES) {
-        added = add_sample(added, sample)?;
+        // a sum is looked at one sample later: so the compiler keeps the eight sums in registers, and not the fractions
+        if !is_whole(sum) {
+            return None;
+        }
+        (added, sum) = add_sample(added, sample);
     }
-    Some(added)
+    is_whole(sum).then_some(added)
 }
 
 // Parts a total by the fractions of each type, which are parts of a whole: a type's mass is what is reached with it, rounded down, less
