@@ -5,6 +5,8 @@
 mod error;
 mod kind;
 
+ghost use Rattle.std.specs.Prelude.{◌≤◌};
+
 use error::CaseError;
 use kind::{Case, LONGEST};
 use std::io::Read;
@@ -14,6 +16,22 @@ fn fill(from: &mut impl Read, lent: &mut [u8]) -> Result<(), CaseError> {
     if input::read_all(from, lent).length < lent.len() {
         return Err(CaseError::Truncated);
     }
+    Ok(())
+}
+
+// Reads the payload of a case and prints its line. Out of line, so that an input without a case asks for no stack for one.
+#[inline(never)]
+fn put_case(
+    from: &mut impl Read,
+    rt: &impl Print,
+    case: Case,
+    length: usize,
+) -> Result<(), CaseError>
+    requires { length ≤ 65536 }
+{
+    let mut payload = [0u8; LONGEST];
+    fill(from, &mut payload[..length])?;
+    case.put_line(rt, &payload[..length]);
     Ok(())
 }
 
@@ -27,9 +45,7 @@ fn read_case(from: &mut impl Read, rt: &impl Print) -> Result<bool, CaseError> {
     }
     let case = Case::try_from(header[0])?;
     let length = case.check(numbers::read::<4>(&header, 1) as usize)?;
-    let mut payload = [0u8; LONGEST];
-    fill(from, &mut payload[..length])?;
-    case.put_line(rt, &payload[..length]);
+    put_case(from, rt, case, length)?;
     Ok(true)
 }
 

@@ -53,7 +53,9 @@ fn put_right(rt: &HostRuntime, output: Output, types: &[u8], file: &[u8])
     account::tell_account(&rt.stderr(), records as u64, repaired);
 }
 
-// Reads the order and the file, and puts the file right; a file that was not read to its end is only told of.
+// Reads the order and the file, and puts the file right; a file that was not read to its end is only told of. Out of line, so that no
+// stack is asked for a file where the arguments are not known.
+#[inline(never)]
 fn put_input_right(rt: &HostRuntime, output: Output) {
     let mut types = [0u8; arguments::ORDER];
     let named = arguments::order_asked(rt, &mut types);

@@ -1,5 +1,5 @@
 // A file run in stretches of 32 records, so that no caller has to lend an output buffer for all of it: 'One step' of document 01, its last
-// paragraph. The listing calls it. What a run looks up once is looked up once a stretch.
+// paragraph. `columns` and `tunisia` call it, and the listing goes by parts of the same length. What a run looks up once is looked up once a stretch.
 #![tactic(auto)]
 
 ghost use Rattle.std.specs.Prelude.{◌≡◌, ◌≤◌, length, drop};

@@ -62,7 +62,7 @@ fn run_years(file: &[u8], stretch: Stretch) -> Taken
         sums: Sums::default(),
     };
     let mut at: usize = 0;
-    // no range: the next place is the end of a stretch, as in `stretches::whole_run`
+    // no range: the next place is the end of a stretch
     while at < file.len() {
         let ran = stretches::run_stretch(ledger, file, at, &mut out);
         let end = stretches::stretch_end(file, at);
