@@ -11,7 +11,7 @@ pub loop-t-preserved : goal.loop-t-preserved
 loop-t-preserved c =
     let sample = c.args.sample.now in
     let loop = c.loop-t in
-    let fraction = c.fraction_of-fraction.ensures in (
+    let fraction : c.fraction_of-fraction.result ≡ fraction_at sample 0 loop.t = grind (arith, c.fraction_of-fraction.ensures) in (
       omega arith,
       sum_more (fraction_at sample 0) loop.t loop.invariant.1 fraction,
       omega arith,
